@@ -1,0 +1,41 @@
+-- Items cut from a feed's input. Assumes nothing.
+use mathlib.Core.List.{List, [], _∷_}
+use Prim.Native.Nat.{ℕ, zero, suc, _+_}
+use lib.ListN.{length, take, drop}
+use Rattle.std.specs.declared.option.Option.{Option}
+use Rattle.std.specs.declared.option.Option.the-variants.{None, Some}
+use Rattle.std.specs.declared.result.Result.{Result}
+use Rattle.std.specs.declared.result.Result.the-variants.{Ok, Err}
+use Rattle.feed.specs.declared.faults.FaultKind.{FaultKind}
+use Rattle.feed.specs.declared.faults.Item.{Item}
+use Rattle.feed.specs.declared.faults.Item.the-variants.{Sound, Faulty}
+use Rattle.feed.specs.declared.lines.Line.{Line}
+
+-- an input cut from the start into pieces of w; what remains is one last piece. (There are no more
+-- pieces than the input has units, and that many are allowed for.)
+abbrev pub cutIn : {X : Type 0} → ℕ → ℕ → List X → List (List X)
+cutIn zero w xs = []
+cutIn (suc n) w [] = []
+cutIn (suc n) w (x ∷ xs) = take w (x ∷ xs) ∷ cutIn n w (drop w (x ∷ xs))
+
+abbrev pub cut : {X : Type 0} → ℕ → List X → List (List X)
+cut w xs = cutIn (length xs) w xs
+
+-- what a piece reads as, as item number n of a station
+abbrev pub itemOf : ℕ → ℕ → Result Line FaultKind → Item
+itemOf station n (Ok l) = Sound l
+itemOf station n (Err k) = Faulty (record { kind = k; station = station; item = n })
+
+-- the pieces as items, numbered from n
+abbrev pub numbered : {X : Type 0} → (List X → Result Line FaultKind) → ℕ → ℕ → List (List X) → List Item
+numbered reads station n [] = []
+numbered reads station n (p ∷ ps) = itemOf station n (reads p) ∷ numbered reads station (n + 1) ps
+
+-- the items of an input
+unfoldable pub itemsOf : {X : Type 0} → (List X → Result Line FaultKind) → ℕ → ℕ → ℕ → List X → List Item
+itemsOf reads w station n input = numbered reads station n (cut w input)
+
+-- a first item and those after it
+abbrev pub headed : Option Item → List Item → List Item
+headed None xs = []
+headed (Some x) xs = x ∷ xs

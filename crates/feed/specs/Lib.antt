@@ -1,0 +1,9 @@
+pub mod Faults
+pub mod Inputs
+pub mod Limits
+pub mod Lines
+pub mod Opened
+pub mod Opening
+pub mod Packed
+pub mod Text
+pub mod Waiting

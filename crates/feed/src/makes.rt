@@ -1,0 +1,60 @@
+// Lines made of values, and read by field.
+ghost use mathlib.Core.Path.{_≡_};
+ghost use Rattle.feed.specs.Lines.{value, lineOf};
+use crate::fields::Field;
+use crate::lines::Line;
+
+impl Line {
+    // The line with these values, or the lowest field whose value is over its limit.
+    pub fn new(
+        time: u32,
+        kind: u32,
+        machine: u32,
+        crew: u32,
+        run: u32,
+        reading: u32,
+    ) -> Result<Line, Field>
+        ensures { λ r. ⌜ r ≡ lineOf time kind machine crew run reading ⌝ }
+    {
+        if time > Field::Time.limit() {
+            return Err(Field::Time);
+        }
+        if kind > Field::Kind.limit() {
+            return Err(Field::Kind);
+        }
+        if machine > Field::Machine.limit() {
+            return Err(Field::Machine);
+        }
+        if crew > Field::Crew.limit() {
+            return Err(Field::Crew);
+        }
+        if run > Field::Run.limit() {
+            return Err(Field::Run);
+        }
+        if reading > Field::Reading.limit() {
+            return Err(Field::Reading);
+        }
+        Ok(Line {
+            time,
+            kind: kind as u16,
+            machine: machine as u16,
+            crew: crew as u16,
+            run: run as u16,
+            reading,
+        })
+    }
+
+    // The value of a field.
+    pub fn value(&self, field: Field) -> u32
+        ensures { λ r. ⌜ r ≡ value (now (self .entry)) field ⌝ }
+    {
+        match field {
+            Field::Time => self.time,
+            Field::Kind => u32::from(self.kind),
+            Field::Machine => u32::from(self.machine),
+            Field::Crew => u32::from(self.crew),
+            Field::Run => u32::from(self.run),
+            Field::Reading => self.reading,
+        }
+    }
+}
