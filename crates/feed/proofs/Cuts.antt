@@ -1,15 +1,17 @@
 -- Cutting an input into items, one at a time. Assumes nothing.
-use mathlib.Core.Path.{_≡_, refl, sym, ap, _∙_}
+use mathlib.Core.Path.{_≡_, refl, sym, ap, subst, _∙_}
 use mathlib.Core.List.{List, [], _∷_}
 use mathlib.Core.Logic.{⊎-elim}
-use Prim.Native.Nat.{ℕ, zero, suc, min, _+_, _-_, _≤_, _<_}
+use Prim.Native.Nat.{ℕ, zero, suc, min, _+_, _-_, _/_, _≤_, _<_}
+use native.Mathlib.Nat.{div-eq-of-lt, add-div-right}
+use native.Mathlib.Numerals.{add-one}
 use native.Mathlib.Omega.{arith}
-use lib.ListN.{length, take, drop, length-drop}
-use lib.Seq.{take-all}
+use lib.ListN.{length, take, drop, length-drop, take-append-drop}
+use lib.Seq.{take-all, length-take-le}
 use Rattle.std.proofs.shelf.Lists.{drop-all}
 use Rattle.std.proofs.shelf.Tests.{cases-lt}
 use Rattle.std.specs.declared.result.Result.{Result}
-use Rattle.feed.specs.Inputs.{cutIn, cut, itemOf, numbered, itemsOf}
+use Rattle.feed.specs.Inputs.{cutIn, cut, Pieces, none, remainder, piece, pieceCount, itemOf, numbered, itemsOf}
 use Rattle.feed.specs.declared.faults.FaultKind.{FaultKind}
 use Rattle.feed.specs.declared.faults.Item.{Item}
 use Rattle.feed.specs.declared.lines.Line.{Line}
@@ -63,6 +65,48 @@ module _ {X : Type 0} (w : ℕ) (xs : List X) where
       (cases-lt w (length xs))
 
 -- one item read from the front of the input
-pub read-first : {X : Type 0} (reads : List X → Result Line FaultKind) (w station n : ℕ) (xs piece after : List X) (x : Item) → 0 < w → 0 < length xs → piece ≡ take (min w (length xs)) xs → after ≡ drop (min w (length xs)) xs → x ≡ itemOf station n (reads piece) → (x ∷ itemsOf reads w station (n + 1) after) ≡ itemsOf reads w station n xs
-read-first reads w station n xs piece after x p h front back e =
+pub read-first : {X : Type 0} (reads : List X → Result Line FaultKind) (w station n : ℕ) (xs part after : List X) (x : Item) → 0 < w → 0 < length xs → part ≡ take (min w (length xs)) xs → after ≡ drop (min w (length xs)) xs → x ≡ itemOf station n (reads part) → (x ∷ itemsOf reads w station (n + 1) after) ≡ itemsOf reads w station n xs
+read-first reads w station n xs part after x p h front back e =
     rw (e, front ∙ take-within w xs, back ∙ drop-within w xs) (sym (items-some reads w station n xs p h))
+
+-- one piece more
+count-more : (w len : ℕ) → 0 < w → 0 < len → pieceCount w (len - w) + 1 ≡ pieceCount w len
+count-more w len p some =
+    ⊎-elim
+    (λ short.
+        let one-piece : len + (w - 1) ≡ len - 1 + w = omega arith in
+        let no-rest : len - w + (w - 1) < w = omega arith in
+        let small : len - 1 < w = omega arith in
+        rw (one-piece, add-div-right (len - 1) p, div-eq-of-lt no-rest, div-eq-of-lt small))
+    (λ long. let whole : len + (w - 1) ≡ len - w + (w - 1) + w = omega arith in rw (whole, add-div-right (len - w + (w - 1)) p))
+    (cases-lt len w)
+
+-- the pieces are those of the input
+pub cut-pieces : {X : Type 0} (w : ℕ) → 0 < w → (n : ℕ) (xs : List X) → length xs ≤ n → Pieces w xs (cut w xs)
+cut-pieces w p n [] h = none
+cut-pieces w p zero (x ∷ xs) h = absurd (omega arith)
+cut-pieces w p (suc n) (x ∷ xs) h =
+    let ys = x ∷ xs in
+    let more : cut w ys ≡ take w ys ∷ cut w (drop w ys) = cut-first w ys p (omega arith) in
+    ⊎-elim
+    (λ (short : length ys < w). let all : take w ys ≡ ys = take-all w ys (omega arith) in let rest : drop w ys ≡ [] = drop-all w ys (omega arith) in rw (more, rest, all) (remainder ys (omega arith) short))
+    (λ (long : w ≤ length ys). rw more (subst (λ zs. Pieces w zs (take w ys ∷ cut w (drop w ys))) (take-append-drop w ys) (piece (take w ys) (drop w ys) _ (length-take-le w ys long) (cut-pieces w p n (drop w ys) (simp length-drop (omega arith))))))
+    (cases-lt (length ys) w)
+
+pub cut-count : {X : Type 0} (w : ℕ) → 0 < w → (n : ℕ) (xs : List X) → length xs ≤ n → length (cut w xs) ≡ pieceCount w (length xs)
+cut-count w p n [] h = sym (div-eq-of-lt (let l : 0 + (w - 1) < w = omega arith in l))
+cut-count w p zero (x ∷ xs) h = absurd (omega arith)
+cut-count w p (suc n) (x ∷ xs) h =
+    let ys = x ∷ xs in
+    let some : 0 < length ys = omega arith in
+    let more : length (cut w ys) ≡ length (cut w (drop w ys)) + 1 = ap length (cut-first w ys p some) ∙ sym (add-one _) in
+    let rest : length (cut w (drop w ys)) ≡ pieceCount w (length ys - w) = cut-count w p n (drop w ys) (simp length-drop (omega arith)) ∙ ap (pieceCount w) (length-drop w ys) in
+    more ∙ ap (λ k. k + 1) rest ∙ count-more w (length ys) p some
+
+pub numbered-count : {X : Type 0} (reads : List X → Result Line FaultKind) (station n : ℕ) (ps : List (List X)) → length (numbered reads station n ps) ≡ length ps
+numbered-count reads station n [] = refl
+numbered-count reads station n (p ∷ ps) = ap suc (numbered-count reads station (n + 1) ps)
+
+pub items-count : {X : Type 0} (reads : List X → Result Line FaultKind) (w station n : ℕ) (xs : List X) → 0 < w → length (itemsOf reads w station n xs) ≡ pieceCount w (length xs)
+unfolding itemsOf
+items-count reads w station n xs p = numbered-count reads station n (cut w xs) ∙ cut-count w p (length xs) xs (omega arith)

@@ -1,4 +1,6 @@
 pub mod Columns
 pub mod Cuts
 pub mod Limited
+pub mod Merges
+pub mod Stretches
 pub mod Words

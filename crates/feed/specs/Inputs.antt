@@ -1,6 +1,7 @@
 -- Items cut from a feed's input. Assumes nothing.
-use mathlib.Core.List.{List, [], _∷_}
-use Prim.Native.Nat.{ℕ, zero, suc, _+_}
+use mathlib.Core.Path.{_≡_}
+use mathlib.Core.List.{List, [], _∷_, _++_}
+use Prim.Native.Nat.{ℕ, zero, suc, _+_, _-_, _/_, _<_}
 use lib.ListN.{length, take, drop}
 use Rattle.std.specs.declared.option.Option.{Option}
 use Rattle.std.specs.declared.option.Option.the-variants.{None, Some}
@@ -20,6 +21,16 @@ cutIn (suc n) w (x ∷ xs) = take w (x ∷ xs) ∷ cutIn n w (drop w (x ∷ xs))
 
 abbrev pub cut : {X : Type 0} → ℕ → List X → List (List X)
 cut w xs = cutIn (length xs) w xs
+
+-- ps are the pieces of w that xs is cut into from the start, with what remains, if anything, as the last
+pub data Pieces {X : Type 0} (w : ℕ) : List X → List (List X) → Type 0 where
+  none : Pieces w [] []
+  remainder : (p : List X) → 0 < length p → length p < w → Pieces w p (p ∷ [])
+  piece : (p xs : List X) (ps : List (List X)) → length p ≡ w → Pieces w xs ps → Pieces w (p ++ xs) (p ∷ ps)
+
+-- how many pieces of w an input of a length has
+abbrev pub pieceCount : ℕ → ℕ → ℕ
+pieceCount w len = (len + (w - 1)) / w
 
 -- what a piece reads as, as item number n of a station
 abbrev pub itemOf : ℕ → ℕ → Result Line FaultKind → Item

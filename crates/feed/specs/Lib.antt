@@ -5,5 +5,6 @@ pub mod Lines
 pub mod Opened
 pub mod Opening
 pub mod Packed
+pub mod Recorded
 pub mod Text
 pub mod Waiting

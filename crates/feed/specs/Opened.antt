@@ -6,7 +6,7 @@ use lib.ListN.{length}
 use Rattle.std.specs.declared.option.Option.the-variants.{None, Some}
 use Rattle.std.specs.declared.result.Result.{Result}
 use Rattle.std.specs.declared.result.Result.the-variants.{Ok, Err}
-use Rattle.feed.specs.Inputs.{itemsOf, headed}
+use Rattle.feed.specs.Inputs.{Pieces, cut, pieceCount, itemsOf, headed}
 use Rattle.feed.specs.Opening.{refusal}
 use Rattle.feed.specs.declared.cursors.InputFeed.{InputFeed}
 use Rattle.feed.specs.declared.faults.FaultKind.{FaultKind}
@@ -18,8 +18,14 @@ use Rattle.feed.specs.declared.lines.Line.{Line}
 abbrev pub waitingIn : {E X : Type 0} → (List X → Result Line FaultKind) → ℕ → InputFeed E X → List Item
 waitingIn reads w s = headed (s .head) (itemsOf reads w (s .station) (s .next) (s .rest .now))
 
--- a feed is opened exactly within the limits, and its list is the input's items
+-- an opening within the limits: the feed's list is the items that the input is cut into
+pub record Holds {E X : Type 0} (reads : List X → Result Line FaultKind) (w most station first : ℕ) (input : List X) (s : InputFeed E X) : Type 0 where
+  pub within : refusal most station first (length input) ≡ None
+  pub items : waitingIn reads w s ≡ itemsOf reads w station first input
+  pub pieces : Pieces w input (cut w input)
+  pub count : length (waitingIn reads w s) ≡ pieceCount w (length input)
+
+-- a feed is opened exactly within the limits
 abbrev pub Opened : {E X : Type 0} → (List X → Result Line FaultKind) → (w most station first : ℕ) → List X → Result (InputFeed E X) OpenRefusal → Type 0
-Opened reads w most station first input (Ok s) =
-    (refusal most station first (length input) ≡ None) × (waitingIn reads w s ≡ itemsOf reads w station first input)
+Opened reads w most station first input (Ok s) = Holds reads w most station first input s
 Opened reads w most station first input (Err e) = refusal most station first (length input) ≡ Some e

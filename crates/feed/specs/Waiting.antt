@@ -1,4 +1,5 @@
 -- Waiting lists: what a look shows, what a drop leaves, and the merge of two. Assumes nothing.
+use mathlib.Core.Path.{_≡_}
 use mathlib.Core.Bool.{Bool, true, false, cond}
 use mathlib.Core.List.{List, [], _∷_}
 use lib.Dec.{leb}
@@ -42,3 +43,17 @@ abbrev pub leads : Option Item → Option Item → Bool
 leads None y = false
 leads (Some x) None = true
 leads (Some x) (Some y) = before x y
+
+-- zs holds exactly the items of xs and those of ys, each in their order
+pub data Interleaved : List Item → List Item → List Item → Type 0 where
+  none : Interleaved [] [] []
+  left : (x : Item) (xs ys zs : List Item) → Interleaved xs ys zs → Interleaved (x ∷ xs) ys (x ∷ zs)
+  right : (y : Item) (xs ys zs : List Item) → Interleaved xs ys zs → Interleaved xs (y ∷ ys) (y ∷ zs)
+
+-- the merge of two lists goes by their heads, loses nothing, and leaves what follows one list as it is
+pub record Merge (xs ys : List Item) : Type 0 where
+  pub heads : first (merged xs ys) ≡ cond (leads (first xs) (first ys)) (first xs) (first ys)
+  pub rest : later (merged xs ys) ≡ cond (leads (first xs) (first ys)) (merged (later xs) ys) (merged xs (later ys))
+  pub both : Interleaved xs ys (merged xs ys)
+  pub left-alone : merged xs [] ≡ xs
+  pub right-alone : merged [] ys ≡ ys

@@ -10,8 +10,8 @@ pub struct InputFeed<'a, E: Encoding> {
     head: Option<Item>,
     rest: &'a [E::Unit],
     station: u16,
-    next: u32,
-    ghost numbered: { next + length (rest .now) < 2 ^ 32 },
+    next: u64,
+    ghost numbered: { next + length (rest .now) < 2 ^ 64 },
 }
 
 pub mod reads;

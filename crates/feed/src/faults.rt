@@ -19,7 +19,7 @@ pub enum FaultKind {
 pub struct Fault {
     pub kind: FaultKind,
     pub station: u16,
-    pub item: u32,
+    pub item: u64,
 }
 
 #[derive(Clone, Copy)]
@@ -33,7 +33,7 @@ pub enum Item {
 pub struct FaultNumbers {
     pub number: u8,
     pub station: u16,
-    pub item: u32,
+    pub item: u64,
     pub field: u8,
 }
 

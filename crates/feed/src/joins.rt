@@ -1,6 +1,6 @@
 // Two feeds as one.
 ghost use mathlib.Core.Path.{_≡_};
-ghost use Rattle.feed.specs.Waiting.{before, leads, merged};
+ghost use Rattle.feed.specs.Waiting.{before, leads, merged, Merge};
 use crate::faults::Item;
 use crate::feeds::Feed;
 
@@ -35,6 +35,16 @@ fn left_next(left: Option<Item>, right: Option<Item>) -> bool
 pub struct Joined<L, R> {
     pub left: L,
     pub right: R,
+}
+
+impl<L: Feed, R: Feed> Joined<L, R> {
+    // The two feeds as one, whose list is the merge of theirs.
+    pub fn new(left: L, right: R) -> Joined<L, R>
+        ensures held { λ r. ⌜ (r .left ≡ left) × (r .right ≡ right) ⌝ }
+        ensures merge { λ _. ⌜ Merge (L·Feed .waiting left) (R·Feed .waiting right) ⌝ }
+    {
+        Joined { left, right }
+    }
 }
 
 pub impl<L: Feed, R: Feed> Feed for Joined<L, R> as JoinedFeed {

@@ -8,4 +8,6 @@ pub mod joins;
 pub mod lines;
 mod makes;
 pub mod packed;
+pub mod recordings;
+pub mod stations;
 pub mod text;

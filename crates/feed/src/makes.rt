@@ -1,5 +1,7 @@
 // Lines made of values, and read by field.
 ghost use mathlib.Core.Path.{_≡_};
+ghost use Prim.Native.Nat.{_≤_};
+ghost use Rattle.feed.specs.Limits.{limit};
 ghost use Rattle.feed.specs.Lines.{value, lineOf};
 use crate::fields::Field;
 use crate::lines::Line;
@@ -44,9 +46,10 @@ impl Line {
         })
     }
 
-    // The value of a field.
+    // The value of a field, which is never over the field's limit.
     pub fn value(&self, field: Field) -> u32
-        ensures { λ r. ⌜ r ≡ value (now (self .entry)) field ⌝ }
+        ensures value { λ r. ⌜ r ≡ value (now (self .entry)) field ⌝ }
+        ensures within { λ r. ⌜ r ≤ limit field ⌝ }
     {
         match field {
             Field::Time => self.time,

@@ -1,11 +1,11 @@
 // Opening a feed over the caller's input, and what it shows and drops.
 ghost use mathlib.Core.Path.{_≡_};
-ghost use mathlib.Core.Bool.{cond};
-ghost use Prim.Native.Nat.{_≤_};
+
+ghost use Prim.Native.Nat.{_+_, _^_, _<_};
 ghost use lib.ListN.{length};
 ghost use Rattle.feed.specs.Inputs.{itemOf, itemsOf, headed};
 ghost use Rattle.feed.specs.Opened.{Opened, waitingIn};
-ghost use Rattle.std.specs.declared.result.Result.{Result};
+
 use crate::cursors::InputFeed;
 use crate::faults::Fault;
 use crate::faults::FaultKind;
@@ -16,7 +16,7 @@ use crate::inputs::OpenRefusal;
 use crate::lines::Line;
 
 // What a piece reads as, as the item of this number at this station.
-fn item_of(station: u16, item: u32, read: Result<Line, FaultKind>) -> Item
+fn item_of(station: u16, item: u64, read: Result<Line, FaultKind>) -> Item
     ensures { λ r. ⌜ r ≡ itemOf station item read ⌝ }
 {
     match read {
@@ -47,11 +47,26 @@ impl<'a, E: Encoding> InputFeed<'a, E> {
 }
 
 impl<'a, E: Encoding> InputFeed<'a, E> {
+    // A feed over the input, with no limit but that the numbers of its items can be told.
+    pub(crate) fn begin(input: &'a [E::Unit], station: u16, first: u64) -> InputFeed<'a, E>
+        requires { ⌜ first + length (now input) < 2 ^ 64 ⌝ }
+        ensures { λ r. ⌜ waitingIn (E·Encoding .reads) (E·Encoding .width) r ≡ itemsOf (E·Encoding .reads) (E·Encoding .width) station first (now (input .entry)) ⌝ }
+    {
+        let mut feed = InputFeed {
+            head: None,
+            rest: input,
+            station,
+            next: first,
+        };
+        feed.advance();
+        feed
+    }
+
     // A feed over the input, whose items belong to the station and are numbered from `first`.
     pub fn open(
         input: &'a [E::Unit],
         station: u16,
-        first: u32,
+        first: u64,
     ) -> Result<InputFeed<'a, E>, OpenRefusal>
         ensures { λ r. ⌜ Opened (E·Encoding .reads) (E·Encoding .width) (E·Encoding .most) station first (now (input .entry)) r ⌝ }
     {
@@ -64,14 +79,7 @@ impl<'a, E: Encoding> InputFeed<'a, E> {
         if input.len() > E::most() {
             return Err(OpenRefusal::InputLength);
         }
-        let mut feed = InputFeed {
-            head: None,
-            rest: input,
-            station,
-            next: first,
-        };
-        feed.advance();
-        Ok(feed)
+        Ok(InputFeed::begin(input, station, first))
     }
 }
 
