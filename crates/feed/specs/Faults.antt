@@ -2,6 +2,8 @@
 use mathlib.Core.List.{List}
 use Prim.Native.Nat.{ℕ}
 use lib.Chars.{codes}
+use Rattle.std.specs.declared.option.Option.{Option}
+use Rattle.std.specs.declared.option.Option.the-variants.{None, Some}
 use Rattle.std.specs.declared.result.Result.{Result}
 use Rattle.std.specs.declared.result.Result.the-variants.{Ok, Err}
 use Rattle.feed.specs.Limits.{fieldNumber}
@@ -20,13 +22,18 @@ faultNumber (Malformed f) = 23
 faultNumber (OverLimit f) = 24
 faultNumber FewWords = 25
 
--- the number of the field that it names, 0 where it names none
-abbrev pub faultField : FaultKind → ℕ
-faultField ShortText = 0
-faultField NoLineFeed = 0
-faultField (Malformed f) = fieldNumber f
-faultField (OverLimit f) = fieldNumber f
-faultField FewWords = 0
+-- the field that it names, if it names one
+abbrev pub faultField : FaultKind → Option Field
+faultField ShortText = None
+faultField NoLineFeed = None
+faultField (Malformed f) = Some f
+faultField (OverLimit f) = Some f
+faultField FewWords = None
+
+-- the number of that field, 0 where there is none
+abbrev pub numberOf : Option Field → ℕ
+numberOf None = 0
+numberOf (Some f) = fieldNumber f
 
 -- all that a recorder is told of a fault
 abbrev pub faultNumbers : Fault → FaultNumbers
@@ -34,7 +41,7 @@ faultNumbers x = record {
   number = faultNumber (x .kind);
   station = x .station;
   item = x .item;
-  field = faultField (x .kind);
+  field = numberOf (faultField (x .kind));
 }
 
 abbrev pub faultWords : FaultKind → List ℕ

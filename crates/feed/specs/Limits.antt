@@ -1,5 +1,7 @@
--- The fields of a line: their limits and their numbers. Assumes nothing.
+-- The fields of a line: their limits, their numbers and their names. Assumes nothing.
+use mathlib.Core.List.{List}
 use Prim.Native.Nat.{ℕ}
+use lib.Chars.{codes}
 use Rattle.feed.specs.declared.fields.Field.{Field}
 use Rattle.feed.specs.declared.fields.Field.the-variants.{Time, Kind, Machine, Crew, Run, Reading}
 
@@ -20,3 +22,12 @@ fieldNumber Machine = 3
 fieldNumber Crew = 4
 fieldNumber Run = 5
 fieldNumber Reading = 6
+
+-- the name of each field
+abbrev pub fieldName : Field → List ℕ
+fieldName Time = codes "time"
+fieldName Kind = codes "kind"
+fieldName Machine = codes "machine"
+fieldName Crew = codes "crew"
+fieldName Run = codes "run"
+fieldName Reading = codes "reading"

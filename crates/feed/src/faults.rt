@@ -50,15 +50,16 @@ impl FaultKind {
         }
     }
 
-    fn field(self) -> u8
+    // The field that the fault names, if it names one.
+    pub fn field(self) -> Option<Field>
         ensures { λ r. ⌜ r ≡ faultField self ⌝ }
     {
         match self {
-            FaultKind::Malformed(field) => field.number(),
-            FaultKind::OverLimit(field) => field.number(),
-            FaultKind::ShortText => 0,
-            FaultKind::NoLineFeed => 0,
-            FaultKind::FewWords => 0,
+            FaultKind::Malformed(field) => Some(field),
+            FaultKind::OverLimit(field) => Some(field),
+            FaultKind::ShortText => None,
+            FaultKind::NoLineFeed => None,
+            FaultKind::FewWords => None,
         }
     }
 
@@ -77,14 +78,19 @@ impl FaultKind {
 }
 
 impl Fault {
+    // The fault by its numbers.
     pub fn numbers(self) -> FaultNumbers
         ensures { λ r. ⌜ r ≡ faultNumbers self ⌝ }
     {
+        let field = match self.kind.field() {
+            Some(field) => field.number(),
+            None => 0,
+        };
         FaultNumbers {
             number: self.kind.number(),
             station: self.station,
             item: self.item,
-            field: self.kind.field(),
+            field,
         }
     }
 }

@@ -1,6 +1,6 @@
 // The six fields of a log line.
 ghost use mathlib.Core.Path.{_≡_};
-ghost use Rattle.feed.specs.Limits.{limit, fieldNumber};
+ghost use Rattle.feed.specs.Limits.{limit, fieldNumber, fieldName};
 
 #[derive(Clone, Copy, Debug, PartialEq, Eq)]
 pub enum Field {
@@ -38,6 +38,20 @@ impl Field {
             Field::Crew => 4,
             Field::Run => 5,
             Field::Reading => 6,
+        }
+    }
+
+    // The field's name.
+    pub fn name(self) -> &'static str
+        ensures { λ r. ⌜ now r ≡ fieldName self ⌝ }
+    {
+        match self {
+            Field::Time => "time",
+            Field::Kind => "kind",
+            Field::Machine => "machine",
+            Field::Crew => "crew",
+            Field::Run => "run",
+            Field::Reading => "reading",
         }
     }
 }

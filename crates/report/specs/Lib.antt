@@ -1,0 +1,3 @@
+pub mod Reported
+pub mod Rows
+pub mod Surveyed
