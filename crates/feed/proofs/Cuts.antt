@@ -1,5 +1,6 @@
 -- Cutting an input into items, one at a time. Assumes nothing.
 use mathlib.Core.Path.{_≡_, refl, sym, ap, subst, _∙_}
+use mathlib.Core.Bool.{true, false}
 use mathlib.Core.List.{List, [], _∷_}
 use mathlib.Core.Logic.{⊎-elim}
 use Prim.Native.Nat.{ℕ, zero, suc, min, _+_, _-_, _/_, _≤_, _<_}
@@ -10,8 +11,10 @@ use lib.ListN.{length, take, drop, length-drop, take-append-drop}
 use lib.Seq.{take-all, length-take-le}
 use Rattle.std.proofs.shelf.Lists.{drop-all}
 use Rattle.std.proofs.shelf.Tests.{cases-lt}
+use Rattle.std.specs.declared.option.Option.the-variants.{None, Some}
 use Rattle.std.specs.declared.result.Result.{Result}
-use Rattle.feed.specs.Inputs.{cutIn, cut, Pieces, none, remainder, piece, pieceCount, itemOf, numbered, itemsOf}
+use Rattle.feed.specs.Inputs.{cutIn, cut, Pieces, none, remainder, piece, pieceCount, itemOf, counted, numbered, itemsOf}
+use Rattle.feed.specs.Waiting.{first, later, any}
 use Rattle.feed.specs.declared.faults.FaultKind.{FaultKind}
 use Rattle.feed.specs.declared.faults.Item.{Item}
 use Rattle.feed.specs.declared.lines.Line.{Line}
@@ -44,7 +47,7 @@ module _ {X : Type 0} (reads : List X → Result Line FaultKind) (w station n : 
       none [] e = refl
       none (y ∷ ys) e = absurd (omega arith)
 
-  pub items-some : 0 < w → 0 < length xs → itemsOf reads w station n xs ≡ itemOf station n (reads (take w xs)) ∷ itemsOf reads w station (n + 1) (drop w xs)
+  pub items-some : 0 < w → 0 < length xs → itemsOf reads w station n xs ≡ itemOf station n (reads (take w xs)) ∷ itemsOf reads w station (counted (n + 1)) (drop w xs)
   unfolding itemsOf
   items-some p h = ap (numbered reads station n) (cut-first w xs p h)
 
@@ -64,20 +67,38 @@ module _ {X : Type 0} (w : ℕ) (xs : List X) where
       (λ h. drop-all _ xs (omega arith) ∙ sym (drop-all w xs h))
       (cases-lt w (length xs))
 
--- one item read from the front of the input
-pub read-first : {X : Type 0} (reads : List X → Result Line FaultKind) (w station n : ℕ) (xs part after : List X) (x : Item) → 0 < w → 0 < length xs → part ≡ take (min w (length xs)) xs → after ≡ drop (min w (length xs)) xs → x ≡ itemOf station n (reads part) → (x ∷ itemsOf reads w station (n + 1) after) ≡ itemsOf reads w station n xs
-read-first reads w station n xs part after x p h front back e =
-    rw (e, front ∙ take-within w xs, back ∙ drop-within w xs) (sym (items-some reads w station n xs p h))
+-- what a look shows and a drop leaves of the items of an input
+module _ {X : Type 0} (reads : List X → Result Line FaultKind) (w station n : ℕ) (xs : List X) where
+  pub shown-first : 0 < w → 0 < length xs → (m : ℕ) (x : Item) → m ≡ min w (length xs) → x ≡ itemOf station n (reads (take m xs)) → Some x ≡ first (itemsOf reads w station n xs)
+  shown-first p h m x e read =
+      let same : x ≡ itemOf station n (reads (take w xs)) = read ∙ ap (λ ys. itemOf station n (reads ys)) (ap (λ k. take k xs) e ∙ take-within w xs) in
+      ap Some same ∙ sym (ap first (items-some reads w station n xs p h))
+
+  pub shown-none : length xs ≡ 0 → None ≡ first (itemsOf reads w station n xs)
+  shown-none h = ap first (items-none reads w station n xs h)
+
+  pub left-some : 0 < w → 0 < length xs → (m : ℕ) (after : List X) → m ≡ min w (length xs) → after ≡ drop m xs → itemsOf reads w station (counted (n + 1)) after ≡ later (itemsOf reads w station n xs)
+  left-some p h m after e back =
+      ap (itemsOf reads w station (counted (n + 1))) (back ∙ ap (λ k. drop k xs) e ∙ drop-within w xs) ∙ sym (ap later (items-some reads w station n xs p h))
+
+  pub left-none : length xs ≡ 0 → itemsOf reads w station n xs ≡ later (itemsOf reads w station n xs)
+  left-none h = sym (items-none reads w station n xs h) ∙ ap later (items-none reads w station n xs h)
+
+  pub any-some : 0 < w → 0 < length xs → true ≡ any (itemsOf reads w station n xs)
+  any-some p h = sym (ap any (items-some reads w station n xs p h))
+
+  pub any-none : length xs ≡ 0 → false ≡ any (itemsOf reads w station n xs)
+  any-none h = ap any (items-none reads w station n xs h)
 
 -- one piece more
 count-more : (w len : ℕ) → 0 < w → 0 < len → pieceCount w (len - w) + 1 ≡ pieceCount w len
 count-more w len p some =
     ⊎-elim
     (λ short.
-        let one-piece : len + (w - 1) ≡ len - 1 + w = omega arith in
-        let no-rest : len - w + (w - 1) < w = omega arith in
-        let small : len - 1 < w = omega arith in
-        rw (one-piece, add-div-right (len - 1) p, div-eq-of-lt no-rest, div-eq-of-lt small))
+    let one-piece : len + (w - 1) ≡ len - 1 + w = omega arith in
+    let no-rest : len - w + (w - 1) < w = omega arith in
+    let small : len - 1 < w = omega arith in
+    rw (one-piece, add-div-right (len - 1) p, div-eq-of-lt no-rest, div-eq-of-lt small))
     (λ long. let whole : len + (w - 1) ≡ len - w + (w - 1) + w = omega arith in rw (whole, add-div-right (len - w + (w - 1)) p))
     (cases-lt len w)
 
@@ -105,7 +126,7 @@ cut-count w p (suc n) (x ∷ xs) h =
 
 pub numbered-count : {X : Type 0} (reads : List X → Result Line FaultKind) (station n : ℕ) (ps : List (List X)) → length (numbered reads station n ps) ≡ length ps
 numbered-count reads station n [] = refl
-numbered-count reads station n (p ∷ ps) = ap suc (numbered-count reads station (n + 1) ps)
+numbered-count reads station n (p ∷ ps) = ap suc (numbered-count reads station (counted (n + 1)) ps)
 
 pub items-count : {X : Type 0} (reads : List X → Result Line FaultKind) (w station n : ℕ) (xs : List X) → 0 < w → length (itemsOf reads w station n xs) ≡ pieceCount w (length xs)
 unfolding itemsOf

@@ -14,7 +14,7 @@ placed-both : (x : Item) (xs : List Item) → ((ys : List Item) → Interleaved 
 placed-both x xs both [] = left x xs [] (merged xs []) (both [])
 placed-both x xs both (y ∷ ys) =
     elim (before x y) as (λ b. Interleaved (x ∷ xs) (y ∷ ys) (cond b (x ∷ merged xs (y ∷ ys)) (y ∷ placed x (merged xs) ys))) [
-      true ↦ left x xs (y ∷ ys) (merged xs (y ∷ ys)) (both (y ∷ ys))
+      | true ↦ left x xs (y ∷ ys) (merged xs (y ∷ ys)) (both (y ∷ ys))
       | false ↦ right y (x ∷ xs) ys (placed x (merged xs) ys) (placed-both x xs both ys)
     ]
 
@@ -31,7 +31,7 @@ merged-heads [] ys = refl
 merged-heads (x ∷ xs) [] = refl
 merged-heads (x ∷ xs) (y ∷ ys) =
     elim (before x y) as (λ b. first (cond b (x ∷ merged xs (y ∷ ys)) (y ∷ placed x (merged xs) ys)) ≡ cond b (Some x) (Some y)) [
-      true ↦ refl
+      | true ↦ refl
       | false ↦ refl
     ]
 
@@ -40,7 +40,7 @@ merged-rest [] ys = refl
 merged-rest (x ∷ xs) [] = refl
 merged-rest (x ∷ xs) (y ∷ ys) =
     elim (before x y) as (λ b. later (cond b (x ∷ merged xs (y ∷ ys)) (y ∷ placed x (merged xs) ys)) ≡ cond b (merged xs (y ∷ ys)) (merged (x ∷ xs) ys)) [
-      true ↦ refl
+      | true ↦ refl
       | false ↦ refl
     ]
 

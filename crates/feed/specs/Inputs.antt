@@ -1,10 +1,8 @@
 -- Items cut from a feed's input. Assumes nothing.
 use mathlib.Core.Path.{_≡_}
 use mathlib.Core.List.{List, [], _∷_, _++_}
-use Prim.Native.Nat.{ℕ, zero, suc, _+_, _-_, _/_, _<_}
+use Prim.Native.Nat.{ℕ, zero, suc, min, _+_, _-_, _/_, _<_}
 use lib.ListN.{length, take, drop}
-use Rattle.std.specs.declared.option.Option.{Option}
-use Rattle.std.specs.declared.option.Option.the-variants.{None, Some}
 use Rattle.std.specs.declared.result.Result.{Result}
 use Rattle.std.specs.declared.result.Result.the-variants.{Ok, Err}
 use Rattle.feed.specs.declared.faults.FaultKind.{FaultKind}
@@ -37,16 +35,15 @@ abbrev pub itemOf : ℕ → ℕ → Result Line FaultKind → Item
 itemOf station n (Ok l) = Sound l
 itemOf station n (Err k) = Faulty (record { kind = k; station = station; item = n })
 
+-- items are counted up to the largest number of 64 bits
+abbrev pub counted : ℕ → ℕ
+counted n = min n 18446744073709551615
+
 -- the pieces as items, numbered from n
 abbrev pub numbered : {X : Type 0} → (List X → Result Line FaultKind) → ℕ → ℕ → List (List X) → List Item
 numbered reads station n [] = []
-numbered reads station n (p ∷ ps) = itemOf station n (reads p) ∷ numbered reads station (n + 1) ps
+numbered reads station n (p ∷ ps) = itemOf station n (reads p) ∷ numbered reads station (counted (n + 1)) ps
 
 -- the items of an input
 unfoldable pub itemsOf : {X : Type 0} → (List X → Result Line FaultKind) → ℕ → ℕ → ℕ → List X → List Item
 itemsOf reads w station n input = numbered reads station n (cut w input)
-
--- a first item and those after it
-abbrev pub headed : Option Item → List Item → List Item
-headed None xs = []
-headed (Some x) xs = x ∷ xs

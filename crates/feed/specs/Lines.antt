@@ -37,6 +37,16 @@ lineOf t k m c u r =
     limited Run u (λ ran.
     limited Reading r (λ read.
     Ok (record {
-      time = t; kind = k; machine = m; crew = c; run = u; reading = r;
-      timed = timed; kinded = kinded; machined = machined; crewed = crewed; ran = ran; read = read;
+      time = t;
+      kind = k;
+      machine = m;
+      crew = c;
+      run = u;
+      reading = r;
+      timed = timed;
+      kinded = kinded;
+      machined = machined;
+      crewed = crewed;
+      ran = ran;
+      read = read;
     })))))))

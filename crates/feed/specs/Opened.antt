@@ -6,7 +6,7 @@ use lib.ListN.{length}
 use Rattle.std.specs.declared.option.Option.the-variants.{None, Some}
 use Rattle.std.specs.declared.result.Result.{Result}
 use Rattle.std.specs.declared.result.Result.the-variants.{Ok, Err}
-use Rattle.feed.specs.Inputs.{Pieces, cut, pieceCount, itemsOf, headed}
+use Rattle.feed.specs.Inputs.{Pieces, cut, pieceCount, itemsOf}
 use Rattle.feed.specs.Opening.{refusal}
 use Rattle.feed.specs.declared.cursors.InputFeed.{InputFeed}
 use Rattle.feed.specs.declared.faults.FaultKind.{FaultKind}
@@ -16,7 +16,7 @@ use Rattle.feed.specs.declared.lines.Line.{Line}
 
 -- the items that wait in a feed over an input
 abbrev pub waitingIn : {E X : Type 0} → (List X → Result Line FaultKind) → ℕ → InputFeed E X → List Item
-waitingIn reads w s = headed (s .head) (itemsOf reads w (s .station) (s .next) (s .rest .now))
+waitingIn reads w s = itemsOf reads w (s .station) (s .next) (s .rest .now)
 
 -- an opening within the limits: the feed's list is the items that the input is cut into
 pub record Holds {E X : Type 0} (reads : List X → Result Line FaultKind) (w most station first : ℕ) (input : List X) (s : InputFeed E X) : Type 0 where

@@ -1,17 +1,89 @@
-// A feed over the caller's input.
-ghost use Prim.Native.Nat.{_+_, _^_, _<_};
-ghost use lib.ListN.{length};
+// Feeds over the caller's bytes or words.
+ghost use mathlib.Core.Path.{_≡_};
+ghost use Rattle.feed.specs.Inputs.{itemOf, itemsOf};
+ghost use Rattle.feed.specs.Opened.{Opened, waitingIn};
+use crate::faults::Fault;
+use crate::faults::FaultKind;
 use crate::faults::Item;
+use crate::feeds::Feed;
 use crate::inputs::Encoding;
+use crate::inputs::OpenRefusal;
+use crate::lines::Line;
 
-// The item that waits first, and the input behind it, whose items are numbered from `next`.
+// The input that is left, whose items belong to the station and are numbered from `next`.
 #[derive(Drop)]
 pub struct InputFeed<'a, E: Encoding> {
-    head: Option<Item>,
     rest: &'a [E::Unit],
     station: u16,
     next: u64,
-    ghost numbered: { next + length (rest .now) < 2 ^ 64 },
 }
 
-pub mod reads;
+// What a piece reads as, as the item of this number at this station.
+fn item_of(station: u16, item: u64, read: Result<Line, FaultKind>) -> Item
+    ensures { λ r. ⌜ r ≡ itemOf station item read ⌝ }
+{
+    match read {
+        Ok(line) => Item::Sound(line),
+        Err(kind) => Item::Faulty(Fault {
+            kind,
+            station,
+            item,
+        }),
+    }
+}
+
+impl<'a, E: Encoding> InputFeed<'a, E> {
+    // A feed over the input, with no limit on it.
+    pub(crate) fn begin(input: &'a [E::Unit], station: u16, first: u64) -> InputFeed<'a, E>
+        ensures { λ r. ⌜ waitingIn (E·Encoding .reads) (E·Encoding .width) r ≡ itemsOf (E·Encoding .reads) (E·Encoding .width) station first (now (input .entry)) ⌝ }
+    {
+        InputFeed {
+            rest: input,
+            station,
+            next: first,
+        }
+    }
+
+    // A feed over the input, whose items belong to the station and are numbered from `first`.
+    pub fn open(
+        input: &'a [E::Unit],
+        station: u16,
+        first: u64,
+    ) -> Result<InputFeed<'a, E>, OpenRefusal>
+        ensures { λ r. ⌜ Opened (E·Encoding .reads) (E·Encoding .width) (E·Encoding .most) station first (now (input .entry)) r ⌝ }
+    {
+        if station < 1 || station > 9_999 {
+            return Err(OpenRefusal::Station);
+        }
+        if first < 1 || first > 9_990_000 {
+            return Err(OpenRefusal::FirstItem);
+        }
+        if input.len() > E::most() {
+            return Err(OpenRefusal::InputLength);
+        }
+        Ok(InputFeed::begin(input, station, first))
+    }
+}
+
+pub impl<E: Encoding> Feed for InputFeed<'_, E> as InputFeedFeed {
+    ghost waiting = { λ s. waitingIn (E·Encoding .reads) (E·Encoding .width) s };
+
+    fn look(&mut self) -> Option<Item> {
+        if self.rest.is_empty() {
+            return None;
+        }
+        let n = E::width().min(self.rest.len());
+        let read = E::read(&self.rest[0..n]);
+        Some(item_of(self.station, self.next, read))
+    }
+
+    fn drop_first(&mut self) -> bool {
+        if self.rest.is_empty() {
+            return false;
+        }
+        let n = E::width().min(self.rest.len());
+        self.rest = &self.rest[n..];
+        self.next = self.next.saturating_add(1);
+        true
+    }
+}

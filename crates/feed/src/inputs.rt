@@ -1,7 +1,7 @@
 // Feeds over the caller's bytes or words.
 ghost use mathlib.Core.Path.{_≡_};
 ghost use mathlib.Core.List.{List};
-ghost use Prim.Native.Nat.{ℕ, _<_, _≤_};
+ghost use Prim.Native.Nat.{ℕ, _<_};
 ghost use Rattle.feed.specs.Opening.{openNumber};
 ghost use Rattle.feed.specs.Text.{textLine};
 ghost use Rattle.feed.specs.Packed.{packedLine};
@@ -24,8 +24,6 @@ pub trait Encoding {
     ghost reads: { List Self·Unit → Result Line FaultKind };
 
     law some: { 0 < width };
-
-    law few: { most ≤ 65536 };
 
     fn width() -> usize
         ensures { λ r. ⌜ r ≡ width ⌝ };

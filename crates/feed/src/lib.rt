@@ -9,5 +9,4 @@ pub mod lines;
 mod makes;
 pub mod packed;
 pub mod recordings;
-pub mod stations;
 pub mod text;

@@ -61,12 +61,7 @@ fn field_text(heap: Global, field: Option<Field>) -> Result<String, AllocError>
 }
 
 // One row of a report.
-fn row(
-    heap: Global,
-    numbers: FaultNumbers,
-    words: &str,
-    field: &str,
-) -> Result<String, AllocError>
+fn row(heap: Global, numbers: FaultNumbers, words: &str, field: &str) -> Result<String, AllocError>
     ensures { λ r. ⌜ made r (λ s. string-bytes s ≡ rowText numbers (now (words .entry)) (now (field .entry))) ⌝ }
 {
     let number = numbers.number;

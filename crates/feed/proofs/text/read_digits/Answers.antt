@@ -9,7 +9,7 @@ returns-then-digit-lt48 c =
     let ds = c .args .digits .now in
     let at = c .loop-digit in
     elim (c .then-digit-lt48 .came) [
-      then-digit-lt48·by·then-digit-lt48 w ↦ digit-low ds (at .digit-index) (at .n) (c .loop-digit-test .taken) (w .if-digit-lt48 .taken) ∙ sym (at .inv .2)
+      | then-digit-lt48·by·then-digit-lt48 w ↦ digit-low ds (at .digit-index) (at .n) (c .loop-digit-test .taken) (w .if-digit-lt48 .taken) ∙ sym (at .inv .2)
       | then-digit-lt48·by·else-digit-lt48·then-digit-gt57 w ↦ digit-high ds (at .digit-index) (at .n) (c .loop-digit-test .taken) (w .if-digit-gt57 .taken) ∙ sym (at .inv .2)
     ]
 

@@ -5,9 +5,6 @@ use borrow.Author.Needs.{needs}
 use Rattle.feed.proofs.Cuts.{cut-pieces, items-count}
 use Rattle.feed.proofs.cursors.InputFeed.open.Needs as need
 
-pub begin-requires : need.begin-requires
-begin-requires g c κs = omega (arith, g .E·Encoding·met .few)
-
 pub returns : need.returns
 returns g c =
     let e = g .E·Encoding in
