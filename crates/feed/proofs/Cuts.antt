@@ -1,17 +1,20 @@
 -- Cutting an input into items, one at a time. Assumes nothing.
 use mathlib.Core.Path.{_≡_, refl, sym, ap, subst, _∙_}
-use mathlib.Core.Bool.{true, false}
+use mathlib.Core.Bool.{Bool, true, false}
 use mathlib.Core.List.{List, [], _∷_}
 use mathlib.Core.Logic.{⊎-elim}
 use Prim.Native.Nat.{ℕ, zero, suc, min, _+_, _-_, _/_, _≤_, _<_}
 use native.Mathlib.Nat.{div-eq-of-lt, add-div-right}
 use native.Mathlib.Numerals.{add-one}
 use native.Mathlib.Omega.{arith}
+use lib.Dec.{eqb}
+use borrow.Author.Tests.{eqb-true, eqb-false}
 use lib.ListN.{length, take, drop, length-drop, take-append-drop}
 use lib.Seq.{take-all, length-take-le}
 use Rattle.std.proofs.shelf.Lists.{drop-all}
-use Rattle.std.proofs.shelf.Tests.{cases-lt}
-use Rattle.std.specs.declared.option.Option.the-variants.{None, Some}
+use Rattle.std.proofs.shelf.Tests.{cases-lt, false≢true}
+use Rattle.std.specs.Orderings.{When}
+use Rattle.std.specs.declared.option.Option.the-variants.{Some}
 use Rattle.std.specs.declared.result.Result.{Result}
 use Rattle.feed.specs.Inputs.{cutIn, cut, Pieces, none, remainder, piece, pieceCount, itemOf, counted, numbered, itemsOf}
 use Rattle.feed.specs.Waiting.{first, later, any}
@@ -74,21 +77,20 @@ module _ {X : Type 0} (reads : List X → Result Line FaultKind) (w station n : 
       let same : x ≡ itemOf station n (reads (take w xs)) = read ∙ ap (λ ys. itemOf station n (reads ys)) (ap (λ k. take k xs) e ∙ take-within w xs) in
       ap Some same ∙ sym (ap first (items-some reads w station n xs p h))
 
-  pub shown-none : length xs ≡ 0 → None ≡ first (itemsOf reads w station n xs)
-  shown-none h = ap first (items-none reads w station n xs h)
-
   pub left-some : 0 < w → 0 < length xs → (m : ℕ) (after : List X) → m ≡ min w (length xs) → after ≡ drop m xs → itemsOf reads w station (counted (n + 1)) after ≡ later (itemsOf reads w station n xs)
   left-some p h m after e back =
       ap (itemsOf reads w station (counted (n + 1))) (back ∙ ap (λ k. drop k xs) e ∙ drop-within w xs) ∙ sym (ap later (items-some reads w station n xs p h))
 
-  pub left-none : length xs ≡ 0 → itemsOf reads w station n xs ≡ later (itemsOf reads w station n xs)
-  left-none h = sym (items-none reads w station n xs h) ∙ ap later (items-none reads w station n xs h)
+  -- whether an input is empty tells whether it has items
+  pub dry : 0 < w → (b : Bool) → b ≡ eqb (length xs) 0 → When b (itemsOf reads w station n xs ≡ []) (any (itemsOf reads w station n xs) ≡ true)
+  dry p true e = sym (items-none reads w station n xs (eqb-true _ _ (sym e)))
+  dry p false e = ap any (items-some reads w station n xs p (not-none (eqb-false _ _ (sym e))))
+    where
+      not-none : (length xs ≡ 0 → ⊥) → 0 < length xs
+      not-none f = omega (arith, f)
 
-  pub any-some : 0 < w → 0 < length xs → true ≡ any (itemsOf reads w station n xs)
-  any-some p h = sym (ap any (items-some reads w station n xs p h))
-
-  pub any-none : length xs ≡ 0 → false ≡ any (itemsOf reads w station n xs)
-  any-none h = ap any (items-none reads w station n xs h)
+  pub some-left : any (itemsOf reads w station n xs) ≡ true → 0 < length xs
+  some-left e = ⊎-elim (λ h. h) (λ h. absurd (false≢true (ap any (items-none reads w station n xs (omega arith)) ∙ e))) (cases-lt 0 (length xs))
 
 -- one piece more
 count-more : (w len : ℕ) → 0 < w → 0 < len → pieceCount w (len - w) + 1 ≡ pieceCount w len

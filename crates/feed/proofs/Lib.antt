@@ -3,4 +3,3 @@ pub mod Cuts
 pub mod Limited
 pub mod Merges
 pub mod Stretches
-pub mod Words

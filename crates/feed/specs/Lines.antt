@@ -18,6 +18,15 @@ value l Crew = l .crew
 value l Run = l .run
 value l Reading = l .reading
 
+-- six values, in the order of the fields, each within its limit
+pub record Within (t k m c u r : ℕ) : Type 0 where
+  pub time : t ≤ limit Time
+  pub kind : k ≤ limit Kind
+  pub machine : m ≤ limit Machine
+  pub crew : c ≤ limit Crew
+  pub run : u ≤ limit Run
+  pub reading : r ≤ limit Reading
+
 -- goes on where the test holds, with that it does, and ends with x where it fails
 abbrev pub where-holds : {X : Type 0} → (test : Bool) → (T test → X) → X → X
 where-holds true go x = go tt

@@ -2,9 +2,43 @@
 ghost use mathlib.Core.Path.{_≡_};
 ghost use Prim.Native.Nat.{_≤_};
 ghost use Rattle.feed.specs.Limits.{limit};
-ghost use Rattle.feed.specs.Lines.{value, lineOf};
+ghost use Rattle.feed.specs.Lines.{value, Within, lineOf};
+ghost use Rattle.std.specs.Options.{Cases};
+ghost use Rattle.std.specs.declared.result.Result.the-variants.{Err};
 use crate::fields::Field;
 use crate::lines::Line;
+
+// The lowest field whose value is over its limit, if there is one.
+fn lowest_over(
+    time: u32,
+    kind: u32,
+    machine: u32,
+    crew: u32,
+    run: u32,
+    reading: u32,
+) -> Option<Field>
+    ensures { λ r. ⌜ Cases r (Within time kind machine crew run reading) (λ f. Err f ≡ lineOf time kind machine crew run reading) ⌝ }
+{
+    if time > Field::Time.limit() {
+        return Some(Field::Time);
+    }
+    if kind > Field::Kind.limit() {
+        return Some(Field::Kind);
+    }
+    if machine > Field::Machine.limit() {
+        return Some(Field::Machine);
+    }
+    if crew > Field::Crew.limit() {
+        return Some(Field::Crew);
+    }
+    if run > Field::Run.limit() {
+        return Some(Field::Run);
+    }
+    if reading > Field::Reading.limit() {
+        return Some(Field::Reading);
+    }
+    None
+}
 
 impl Line {
     // The line with these values, or the lowest field whose value is over its limit.
@@ -18,23 +52,8 @@ impl Line {
     ) -> Result<Line, Field>
         ensures { λ r. ⌜ r ≡ lineOf time kind machine crew run reading ⌝ }
     {
-        if time > Field::Time.limit() {
-            return Err(Field::Time);
-        }
-        if kind > Field::Kind.limit() {
-            return Err(Field::Kind);
-        }
-        if machine > Field::Machine.limit() {
-            return Err(Field::Machine);
-        }
-        if crew > Field::Crew.limit() {
-            return Err(Field::Crew);
-        }
-        if run > Field::Run.limit() {
-            return Err(Field::Run);
-        }
-        if reading > Field::Reading.limit() {
-            return Err(Field::Reading);
+        if let Some(field) = lowest_over(time, kind, machine, crew, run, reading) {
+            return Err(field);
         }
         Ok(Line {
             time,

@@ -10,4 +10,5 @@ pub struct Report {
     faults: Vec<Fault>,
 }
 
-pub mod notes;
+mod notes;
+mod reads;

@@ -13,6 +13,6 @@ returns c =
     let m = c .min-n .result in
     let rest = c .split-at .result .1 .now in
     let told : self .next ≡ counted (self .next) = search needs in
-    ap (λ xs. followed xs (itemsOf textLine 35 (self .station) (c .saturating-add-self .result) rest)) (c .begin-self .ensures)
+    ap (λ xs. followed xs (itemsOf textLine 35 (self .station) (c .saturating-add-self .result) rest)) (c .begin-self .ensures .items)
     ∙ ap (λ k. followed (itemsOf textLine 35 (self .station) (self .next) (c .split-at .result .0 .now)) (itemsOf textLine 35 (self .station) k rest)) (c .saturating-add-self .ensures)
     ∙ next-stretch (self .station) (self .next) m (self .after .now) (c .split-at .result .0 .now) rest told (c .min-n .ensures) (c .split-at .ensures .front) (c .split-at .ensures .back)
