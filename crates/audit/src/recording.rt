@@ -1,5 +1,6 @@
 // `audit recording LOG [LOG]`: a report on a recording, or on two joined.
 use crate::USAGE;
+use crate::files::bytes_of;
 use feed::feeds::Feed;
 use feed::joins::Joined;
 use feed::joins::JoinedFeed;
@@ -9,15 +10,6 @@ use report::rows::fault_row;
 use report::rows::summary;
 use report::surveys::survey;
 use std::error::AnyError;
-use std::fs;
-
-// The bytes of a file.
-fn bytes_of(rt: &LibcRuntime, path: &str) -> Result<Vec<u8>, AnyError> {
-    match fs::read(rt, path) {
-        Ok(bytes) => Ok(bytes),
-        Err(e) => Err(format!(rt.alloc(), "cannot read {path}: {e}")?.into()),
-    }
-}
 
 // The recording as a feed of the station.
 fn opened(text: &[u8], station: u16) -> Result<Recording<'_>, AnyError> {

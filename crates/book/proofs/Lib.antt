@@ -1,0 +1,12 @@
+pub mod Bounds
+pub mod Compose
+pub mod Det
+pub mod Once
+pub mod Bytes
+pub mod Sums
+pub mod Lists
+pub mod Codes
+pub mod Squares
+pub mod Nested
+pub mod Texts
+pub mod Either

@@ -1,0 +1,17 @@
+pub mod Letters
+pub mod Rules
+pub mod Refusals
+pub mod Sets
+pub mod Text
+pub mod Grammar
+pub mod Faults
+pub mod Exact
+pub mod Reading
+pub mod Readers
+pub mod Parts
+pub mod Sizes
+pub mod Trees
+pub mod Patterns
+pub mod Nodes
+pub mod Kept
+pub mod Whole

@@ -1,0 +1,16 @@
+pub mod Matching
+pub mod Verdicts
+pub mod Sheet
+pub mod Open
+pub mod Joins
+pub mod Worked
+pub mod Final
+pub mod Letters
+pub mod Facts
+pub mod Steps
+pub mod Drafts
+pub mod Groups
+pub mod Places
+pub mod Stepping
+pub mod Judging
+pub mod Standings

@@ -1,0 +1,57 @@
+// Writing into a draft.
+ghost use mathlib.Core.Path.{_≡_};
+ghost use mathlib.Core.List.{List, [], _∷_, _++_};
+ghost use Prim.Native.Nat.{min};
+ghost use lib.ListN.{length};
+ghost use Rattle.std.specs.Vec.{made};
+ghost use Rattle.duty.specs.Sheet.{entry};
+ghost use Rattle.duty.specs.Drafts.{Drafted, Adds};
+ghost use Rattle.duty.specs.declared.entries.Entry.{Entry};
+use crate::drafts::Draft;
+use crate::entries::Entry;
+use crate::places::Place;
+use std::alloc::AllocError;
+use std::alloc::Global;
+
+impl Draft {
+    pub fn new(heap: Global) -> Result<Draft, AllocError>
+        ensures { λ r. ⌜ made r (λ d. Drafted d []) ⌝ }
+    {
+        let entries = Vec::with_capacity(heap, 256)?;
+        Ok(Draft { entries, count: 0 })
+    }
+
+    // One more entry, of the rule at this place.
+    pub fn write(&mut self, place: Place, mark: bool, letters: &[Option<u32>; 8])
+        ensures { λ _. ⌜ Adds (now (self .entry)) (now (self .exit)) (entry (place .node) (place .level) mark (now (letters .entry)) ∷ []) ⌝ }
+    {
+        if self.count < 256 {
+            self.entries.push_reserved(Entry {
+                node: place.node,
+                level: place.level,
+                mark,
+                letters: *letters,
+            });
+            self.count += 1;
+        } else {
+            self.count = 257;
+        }
+    }
+
+    // Back to an earlier count.
+    pub fn cut(&mut self, count: usize)
+        ensures { λ _. ⌜ ((es more : List Entry) → Drafted (now (self .entry)) (es ++ more) → count ≡ min (length es) 257 → Drafted (now (self .exit)) es) ⌝ }
+    {
+        if count < self.count {
+            self.entries.truncate(count);
+            self.count = count;
+        }
+    }
+
+    pub fn clear(&mut self)
+        ensures { λ _. ⌜ Drafted (now (self .exit)) [] ⌝ }
+    {
+        self.entries.truncate(0);
+        self.count = 0;
+    }
+}

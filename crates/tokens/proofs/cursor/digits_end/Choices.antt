@@ -1,0 +1,11 @@
+use mathlib.Core.Path.{_≡_}
+use Prim.Native.Nat.{_-_, _+_, _≤_}
+use lib.ListN.{length, drop}
+use Rattle.tokens.specs.Text.{isDigit, runLen}
+use Rattle.tokens.proofs.cursor.digits_end.Given as given
+
+abbrev pub Inv-loop-at : given.InvT-loop-at
+Inv-loop-at l = (l .from ≤ l .at) × (l .at ≤ length (l .text)) × (l .from + runLen isDigit (drop (l .from) (l .text)) ≡ l .at + runLen isDigit (drop (l .at) (l .text)))
+
+abbrev pub μ-loop-at : given.MeasureT-loop-at
+μ-loop-at l = length (l .text) - l .at
