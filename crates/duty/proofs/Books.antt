@@ -46,6 +46,7 @@ shallow-book (r ∷ rs) log = go (verdict r log) refl (shallow-book rs log)
   where
     none : (verdict r log ≡ Pending → ⊥) → Shallow 0 (bookSheet rs log) → Shallow 0 (ruleSheet r log ++ bookSheet rs log)
     none h s = subst (λ es. Shallow 0 (es ++ bookSheet rs log)) (sym (facts.decided r log h)) s
+
     go : (v : Verdict) → verdict r log ≡ v → Shallow 0 (bookSheet rs log) → Shallow 0 (ruleSheet r log ++ bookSheet rs log)
     go Pending e s = shallow-group 0 (ruleSheet r log) (bookSheet rs log) (facts.pending r log e)
     go (Satisfied j) e s = none (λ p. let z : _≡_ {A = ℕ} 0 1 = cc in absurd (omega arith)) s
@@ -137,10 +138,10 @@ rolls-on rs olds i at es l num vs vs′ vs″ d d′ d″ r v j lt is rolls judg
     record {
       ahead = sym (drop-drop (j .read) at es) ∙ (sym (ap (drop (j .read)) (take-rest es at)) ∙ t .ahead);
       judged =
-        push ∙ ((λ k. g .judged k ++ (t .verdict-is k ∷ [])) ∙ (append-assoc vs (verdicts (pureRules (take i rs)) next) (verdict (pureRule r) next ∷ [])
-        ∙ ap (λ x. vs ++ x) (verdicts-more (take i rs) r next ∙ ap (λ x. verdicts (pureRules x) next) (sym more))));
+          push ∙ ((λ k. g .judged k ++ (t .verdict-is k ∷ [])) ∙ (append-assoc vs (verdicts (pureRules (take i rs)) next) (verdict (pureRule r) next ∷ [])
+          ∙ ap (λ x. vs ++ x) (verdicts-more (take i rs) r next ∙ ap (λ x. verdicts (pureRules x) next) (sym more))));
       written =
-        adds-as d d″ _ _ (sheet-more (take i rs) r next ∙ ap (λ x. bookSheet (pureRules x) next) (sym more)) (adds-then d d′ d″ _ _ (g .written) (t .written));
+          adds-as d d″ _ _ (sheet-more (take i rs) r next ∙ ap (λ x. bookSheet (pureRules x) next) (sym more)) (adds-then d d′ d″ _ _ (g .written) (t .written));
     }
 
 pub rolls-end : (rs : List Rule) (olds : List Verdict) (i at : ℕ) (es : List Entry) (l : Line) (num : ℕ) (vs vs′ : List Verdict) (d d′ : Draft) → length rs ≤ i → Rolls rs olds i at es l num vs vs′ d d′ → (log : List Line) → suc (length log) ≡ num → olds ≡ verdicts (pureRules rs) log → es ≡ bookSheet (pureRules rs) log → JudgedRules (pureRules rs) (log ++ (l ∷ [])) vs vs′ d d′
@@ -161,11 +162,11 @@ opens-on rs i vs vs′ vs″ d d′ d″ r lt is g a push =
     let more : take (i + 1) rs ≡ take i rs ++ (r ∷ []) = take-more rs i r lt ∙ ap (λ x. take i rs ++ (x ∷ [])) (sym is) in
     record {
       judged =
-        push ∙ ((λ k. g .judged k ++ (sym (start-verdict (pureRule r)) k ∷ [])) ∙ (append-assoc vs (verdicts (pureRules (take i rs)) []) (verdict (pureRule r) [] ∷ [])
-        ∙ ap (λ x. vs ++ x) (verdicts-more (take i rs) r [] ∙ ap (λ x. verdicts (pureRules x) []) (sym more))));
+          push ∙ ((λ k. g .judged k ++ (sym (start-verdict (pureRule r)) k ∷ [])) ∙ (append-assoc vs (verdicts (pureRules (take i rs)) []) (verdict (pureRule r) [] ∷ [])
+          ∙ ap (λ x. vs ++ x) (verdicts-more (take i rs) r [] ∙ ap (λ x. verdicts (pureRules x) []) (sym more))));
       written =
-        adds-as d d″ _ _ (ap (λ x. bookSheet (pureRules (take i rs)) [] ++ x) (sym (sheet-after (pureRule r) 1 0 unbound 1 [])) ∙ (sheet-more (take i rs) r [] ∙ ap (λ x. bookSheet (pureRules x) []) (sym more)))
-        (adds-then d d′ d″ _ _ (g .written) a);
+          adds-as d d″ _ _ (ap (λ x. bookSheet (pureRules (take i rs)) [] ++ x) (sym (sheet-after (pureRule r) 1 0 unbound 1 [])) ∙ (sheet-more (take i rs) r [] ∙ ap (λ x. bookSheet (pureRules x) []) (sym more)))
+          (adds-then d d′ d″ _ _ (g .written) a);
     }
 
 pub opens-end : (rs : List Rule) (i : ℕ) (vs vs′ : List Verdict) (d d′ : Draft) → length rs ≤ i → JudgedRules (pureRules (take i rs)) [] vs vs′ d d′ → JudgedRules (pureRules rs) [] vs vs′ d d′

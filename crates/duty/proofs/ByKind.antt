@@ -400,5 +400,8 @@ module _ (r s : Rule) (p : Place) (g : List Entry) (m : ℕ) (w : m ≤ length (
   both-stepped l p′ p″ d d₁ d₂ d₃ a b h en el em ek x y =
       record {
         head = subst (λ z. Adds d d₁ (entry (p .node) (p .level) false z ∷ [])) (parts .letters) h;
-        left-at = (en, el); right-at = (em, ek); left-came = left-part l p′ d₁ d₂ a en x; right-came = right-part l p″ d₂ d₃ b em y;
+        left-at = (en, el);
+        right-at = (em, ek);
+        left-came = left-part l p′ d₁ d₂ a en x;
+        right-came = right-part l p″ d₂ d₃ b em y;
       }

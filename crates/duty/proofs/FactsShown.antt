@@ -48,8 +48,10 @@ starts (r ∷ rs) =
 pub sheet-facts : SheetFacts
 sheet-facts =
     record {
-      pending = pending; decided = decided;
+      pending = pending;
+      decided = decided;
       within = λ r log. of.all-map (of.In 1 (1 + nodes r) (0 + depth r)) (λ e. (1 ≤ e .node) × (e .node ≤ nodes r) × (e .level < depth r)) (λ e h. (omega arith, omega arith, omega arith)) (ruleSheet r log) (within r log);
       levels = λ r log d. of.all-map (of.In 1 (1 + nodes r) (0 + depth r)) (λ e. e .level < 8) (λ e h. omega arith) (ruleSheet r log) (within r log);
-      starts = starts; fits = λ rs h. omega (arith, starts rs);
+      starts = starts;
+      fits = λ rs h. omega (arith, starts rs);
     }

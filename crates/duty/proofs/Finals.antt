@@ -62,6 +62,7 @@ stops {A} step o i (l ∷ ls) j d = close (goes step i ls j (λ o. stops step o 
             let e : k ≡ l = cc in
             let t : take (g .n) other ≡ take (g .n) ls = cc in
             rw e (g .stays other t)
+
         before : (m : ℕ) → m ≤ g .n → run step o i (take m (l ∷ ls)) ≡ Pending
         before zero h = refl
         before (suc m) h = g .not-before m h

@@ -92,6 +92,7 @@ once-carries p q s inside n lev f i (l ∷ ls) = go (later Once p q s n f l ls (
   where
     C : Entry → Type 0
     C e = Carries (trigger Once p q s) n f e (l ∷ ls)
+
     go : All C (onceSheet p q (entry n lev false f) (sheet s (suc n) lev) f (suc i) ls) → (m : Effect) → effect p q f l ≡ m → All C (onceAt m (λ g. sheet s (suc n) lev g (suc i) ls) (onceSheet p q (entry n lev false f) (sheet s (suc n) lev) f (suc i) ls))
     go rest Ends h = tt
     go rest (Acts g) h = opened Once p q s inside n lev f i l ls g h
@@ -103,8 +104,10 @@ duties-carry p q s inside n lev f i (l ∷ ls) = go (later Each p q s n f l ls (
   where
     C : Entry → Type 0
     C e = Carries (trigger Each p q s) n f e (l ∷ ls)
+
     rest : List Entry
     rest = duties p q (sheet s (suc n) lev) f (suc i) ls
+
     go : All C rest → (m : Effect) → effect p q f l ≡ m → All C (dutiesAt m (λ g. sheet s (suc n) lev g (suc i) ls) rest)
     go h Ends e = tt
     go h (Acts g) e = all-++ C (sheet s (suc n) lev g (suc i) ls) rest (opened Each p q s inside n lev f i l ls g e) h

@@ -69,17 +69,21 @@ unfolding entries
 within (duty k p q) n lev f = ((omega arith, omega arith, omega arith), tt)
 within (trigger Once p q s) n lev (waiting f) = ((omega arith, omega arith, omega arith), tt)
 within (trigger Once p q s) n lev (running o) = wider (suc n) (suc n + nodes s) (lev + depth s) n (n + suc (nodes s)) (lev + suc (depth s)) (omega arith) (omega arith) (omega arith) (entries s (suc n) lev o) (within s (suc n) lev o)
-within (trigger Each p q s) n lev (watch f m ds) =
-    ((omega arith, omega arith, omega arith), all-together (In n (n + suc (nodes s)) (lev + suc (depth s))) (entries s (suc n) (suc lev))
-    (λ o. wider (suc n) (suc n + nodes s) (suc lev + depth s) n (n + suc (nodes s)) (lev + suc (depth s)) (omega arith) (omega arith) (omega arith) (entries s (suc n) (suc lev) o) (within s (suc n) (suc lev) o)) ds)
+within (trigger Each p q s) n lev (watch f m ds) = (
+  (omega arith, omega arith, omega arith),
+  all-together (In n (n + suc (nodes s)) (lev + suc (depth s))) (entries s (suc n) (suc lev))
+      (λ o. wider (suc n) (suc n + nodes s) (suc lev + depth s) n (n + suc (nodes s)) (lev + suc (depth s)) (omega arith) (omega arith) (omega arith) (entries s (suc n) (suc lev) o) (within s (suc n) (suc lev) o)) ds,
+)
 within (bracket Else r s) n lev (first f o) =
     ((omega arith, omega arith, omega arith), wider (suc n) (suc n + nodes r) (suc lev + depth r) n (n + suc (nodes r + nodes s)) (lev + suc (max (depth r) (depth s))) (omega arith) (omega arith) (omega arith) (entries r (suc n) (suc lev) o) (within r (suc n) (suc lev) o))
 within (bracket Else r s) n lev (second o) =
     wider (suc n + nodes r) (suc n + nodes r + nodes s) (lev + depth s) n (n + suc (nodes r + nodes s)) (lev + suc (max (depth r) (depth s))) (omega arith) (omega arith) (omega arith) (entries s (suc n + nodes r) lev o) (within s (suc n + nodes r) lev o)
-within (bracket And r s) n lev (two f o o′) =
-    ((omega arith, omega arith, omega arith), all-++ (In n (n + suc (nodes r + nodes s)) (lev + suc (max (depth r) (depth s)))) (entries r (suc n) (suc lev) o) (entries s (suc n + nodes r) (suc lev) o′)
-    (wider (suc n) (suc n + nodes r) (suc lev + depth r) n (n + suc (nodes r + nodes s)) (lev + suc (max (depth r) (depth s))) (omega arith) (omega arith) (omega arith) (entries r (suc n) (suc lev) o) (within r (suc n) (suc lev) o))
-    (wider (suc n + nodes r) (suc n + nodes r + nodes s) (suc lev + depth s) n (n + suc (nodes r + nodes s)) (lev + suc (max (depth r) (depth s))) (omega arith) (omega arith) (omega arith) (entries s (suc n + nodes r) (suc lev) o′) (within s (suc n + nodes r) (suc lev) o′)))
+within (bracket And r s) n lev (two f o o′) = (
+  (omega arith, omega arith, omega arith),
+  all-++ (In n (n + suc (nodes r + nodes s)) (lev + suc (max (depth r) (depth s)))) (entries r (suc n) (suc lev) o) (entries s (suc n + nodes r) (suc lev) o′)
+      (wider (suc n) (suc n + nodes r) (suc lev + depth r) n (n + suc (nodes r + nodes s)) (lev + suc (max (depth r) (depth s))) (omega arith) (omega arith) (omega arith) (entries r (suc n) (suc lev) o) (within r (suc n) (suc lev) o))
+      (wider (suc n + nodes r) (suc n + nodes r + nodes s) (suc lev + depth s) n (n + suc (nodes r + nodes s)) (lev + suc (max (depth r) (depth s))) (omega arith) (omega arith) (omega arith) (entries s (suc n + nodes r) (suc lev) o′) (within s (suc n + nodes r) (suc lev) o′)),
+)
 within (bracket And r s) n lev (left o) =
     wider (suc n) (suc n + nodes r) (lev + depth r) n (n + suc (nodes r + nodes s)) (lev + suc (max (depth r) (depth s))) (omega arith) (omega arith) (omega arith) (entries r (suc n) lev o) (within r (suc n) lev o)
 within (bracket And r s) n lev (right o) =

@@ -72,14 +72,22 @@ turn s p below at n l d d′ d″ a b goes lt w ends h lev ds e = go (g .rest) (
   where
     g : Going s p lev below at ds l d d′ a
     g = goes lev ds e
+
     E : Open s → List Entry
     E = entries s (p .node) lev
+
     go : (rest : List (Open s)) → drop at below ≡ together E rest → stepDuties (step s) ds l ≡ addFront (g .done) (stepDuties (step s) rest l) → Turn s p lev below at n ds l d d′ d″ a b
     go [] x y = absurd (omega (arith, ap length x, length-drop at below))
     go (o ∷ rest) x y =
         let t = group-splits lev (drop at below) (E o) (together E rest) n x (group s (p .node) lev o) (shallow-together lev E (group s (p .node) lev) rest) w ends in
         record {
-          done = g .done; now-one = o; rest = rest; ahead = sym (drop-drop n at below) ∙ t .back; steps = y; written = g .written; so-far = g .so-far;
+          done = g .done;
+          now-one = o;
+          rest = rest;
+          ahead = sym (drop-drop n at below) ∙ t .back;
+          steps = y;
+          written = g .written;
+          so-far = g .so-far;
           came = h lev o (t .front);
         }
 
@@ -95,8 +103,12 @@ turn-met s p lev below at n ds l d d′ d″ a t =
     let K = stepDuties (step s) (t .rest) l in
     let h = together (entries s (p .node) (p .level)) (t .done) in
     record {
-      done = t .done; rest = t .rest; ahead = t .ahead; steps = t .steps ∙ ap (λ x. addFront (t .done) (addDuty x K)) e;
-      written = adds-as d d″ _ _ (ap (λ x. h ++ shown (entries s (p .node) (p .level)) x) e ∙ append-nil h) (adds-then d d′ d″ h _ (t .written) (t .came .written)); so-far = t .so-far;
+      done = t .done;
+      rest = t .rest;
+      ahead = t .ahead;
+      steps = t .steps ∙ ap (λ x. addFront (t .done) (addDuty x K)) e;
+      written = adds-as d d″ _ _ (ap (λ x. h ++ shown (entries s (p .node) (p .level)) x) e ∙ append-nil h) (adds-then d d′ d″ h _ (t .written) (t .came .written));
+      so-far = t .so-far;
     }
 
 pub turn-open : (s : Rule) (p : Place) (lev : ℕ) (below : List Entry) (at n : ℕ) (ds : List (Open s)) (l : Line) (d d′ d″ : Draft) (a : Outcome) → Turn s p lev below at n ds l d d′ d″ a StillOpen → Going s p lev below (at + n) ds l d d″ StillOpen
@@ -106,7 +118,9 @@ turn-open s p lev below at n ds l d d′ d″ a t =
     let E = entries s (p .node) (p .level) in
     let h = together E (t .done) in
     record {
-      done = t .done ++ (q .o ∷ []); rest = t .rest; ahead = t .ahead;
+      done = t .done ++ (q .o ∷ []);
+      rest = t .rest;
+      ahead = t .ahead;
       steps = t .steps ∙ (ap (λ x. addFront (t .done) (addDuty x K)) (q .is) ∙ front-more (t .done) (q .o) K);
       written = adds-as d d″ _ _ (ap (λ x. h ++ shown E x) (q .is) ∙ together-more E (t .done) (q .o)) (adds-then d d′ d″ h _ (t .written) (t .came .written));
       so-far = some-more (t .done) (q .o);
@@ -122,8 +136,10 @@ turn-breached s p lev below at n ds l d d′ d″ a t =
     let is : stepDuties (step s) ds l ≡ broken = t .steps ∙ ap (λ x. addFront (t .done) (addDuty x K)) e in
     let h = together (entries s (p .node) (p .level)) (t .done) in
     record {
-      answer = sym (ap dutiesOutcome is); more = h ++ shown (entries s (p .node) (p .level)) (step s (t .now-one) l);
-      written = adds-then d d′ d″ h _ (t .written) (t .came .written); listed = λ ks x. not-kept ks (sym is ∙ x);
+      answer = sym (ap dutiesOutcome is);
+      more = h ++ shown (entries s (p .node) (p .level)) (step s (t .now-one) l);
+      written = adds-then d d′ d″ h _ (t .written) (t .came .written);
+      listed = λ ks x. not-kept ks (sym is ∙ x);
     }
 
 none-left : (s : Rule) (n lev : ℕ) (rest : List (Open s)) → together (entries s n lev) rest ≡ [] → rest ≡ []
@@ -144,6 +160,7 @@ ends s p below at l d d′ a goes le lev ds e =
     let is : stepDuties (step s) ds l ≡ kept (g .done ++ []) = g .steps ∙ ap (λ x. addFront (g .done) (stepDuties (step s) x l)) none in
     record {
       answer = g .so-far ∙ sym (ap dutiesOutcome (is ∙ ap kept (append-nil (g .done))));
-      more = together (entries s (p .node) (p .level)) (g .done); written = g .written;
+      more = together (entries s (p .node) (p .level)) (g .done);
+      written = g .written;
       listed = λ ks x. ap (together (entries s (p .node) (p .level))) (kept-same (g .done) ks (sym is ∙ x));
     }

@@ -28,7 +28,8 @@ use Rattle.book.specs.declared.terms.Binder.{Binder}
 use Rattle.book.specs.declared.terms.Condition.{Condition}
 use Rattle.std.specs.Options.{isSome}
 use Rattle.book.specs.Rules.{Pattern, lines}
-use Rattle.duty.specs.Matching.{Bindings, unbound, bound, holds, allHold, agreed, agrees, clashed, clashes, andThen, bind, matches, acting, ending, effect}
+use Rattle.duty.specs.Clashes.{clashed, clashes}
+use Rattle.duty.specs.Matching.{Bindings, unbound, bound, holds, allHold, agreed, agrees, andThen, bind, matches, acting, ending, effect}
 use Rattle.duty.specs.declared.matching.Effect.the-variants.{Ends}
 
 pub bind-none : (bs : List Binder) (i : ℕ) (d : Binder) (l : Line) (f : Bindings) → i < length bs → agrees (getD bs i d .operand) (value l (getD bs i d .field)) f ≡ None → bind (drop i bs) l f ≡ None
@@ -111,6 +112,7 @@ clash-stays (operand.Bound a) (operand.Bound b) y y′ f g h e = go (bound f b) 
     same : (t : Bool) → cond t (Some f) None ≡ Some g → clashed (bound g a) y ≡ true
     same true k = let s : f ≡ g = cc in subst (λ z. clashed (bound z a) y ≡ true) s h
     same false k = let z : _≡_ {A = ℕ} 0 1 = cc in absurd (omega arith)
+
     go : (v : Option ℕ) → bound f b ≡ v → agreed v b y′ f ≡ Some g → clashed (bound g a) y ≡ true
     go None k q = let s : set f (letterIndex b) (Some y′) ≡ g = cc in subst (λ z. clashed (bound z a) y ≡ true) s (bound-stays f (letterIndex a) (letterIndex b) (Some y′) y h k)
     go (Some x) k q = same (eqb x y′) q

@@ -52,7 +52,9 @@ duties-placed k p q at lev (f ∷ ds) = ap (λ es. entry (at .node) (at .level) 
 pub all-kept : (at : Place) (es : List Entry) (d d′ : Draft) (a : Outcome) → Adds d d′ (placed at es) → ((r : Rule) (lev : ℕ) (ds : List (Open r)) → es ≡ together (entries r (at .node) lev) ds → a ≡ dutiesOutcome (kept ds)) → (r : Rule) (l : Line) → PassedBy r l → (lev : ℕ) (ds : List (Open r)) → es ≡ together (entries r (at .node) lev) ds → CameAll r (at .node) (at .level) (kept ds) d d′ a
 all-kept at es d d′ a w told (duty k p q) l h lev ds e =
     record {
-      answer = told (duty k p q) lev ds e; more = placed at es; written = w;
+      answer = told (duty k p q) lev ds e;
+      more = placed at es;
+      written = w;
       listed = λ ks x. ap (placed at) e ∙ (duties-placed k p q at lev ds ∙ ap (together (entries (duty k p q) (at .node) (at .level))) (same ks x));
     }
   where

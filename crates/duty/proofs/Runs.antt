@@ -54,10 +54,11 @@ once-run : (p q : Pattern) (s : Rule) → ((f : Bindings) (i : ℕ) (ls : List L
 unfolding step
 once-run p q s inside f i [] = refl
 once-run p q s inside f i (l ∷ ls) =
-    elim (effect p q f l) as (λ m. triggerAt Once i m (λ g. V s g (suc i) ls) (triggerV Once p q (V s) f (suc i) ls) ≡ decide i (onceStep f m (start s)) (λ o. run (step (trigger Once p q s)) o (suc i) ls))
-    [ Ends ↦ refl
-    | Acts g ↦ inside g (suc i) ls ∙ sym (run-over running (step s) (step (trigger Once p q s)) (λ o k. refl) (start s g) (suc i) ls)
-    | Passes ↦ once-run p q s inside f (suc i) ls ]
+    elim (effect p q f l) as (λ m. triggerAt Once i m (λ g. V s g (suc i) ls) (triggerV Once p q (V s) f (suc i) ls) ≡ decide i (onceStep f m (start s)) (λ o. run (step (trigger Once p q s)) o (suc i) ls)) [
+      | Ends ↦ refl
+      | Acts g ↦ inside g (suc i) ls ∙ sym (run-over running (step s) (step (trigger Once p q s)) (λ o k. refl) (start s g) (suc i) ls)
+      | Passes ↦ once-run p q s inside f (suc i) ls
+    ]
 
 -- `and`
 both-run : (r s : Rule) (f : Bindings) (o : Open r) (o′ : Open s) (i : ℕ) (ls : List Line) → run (step (bracket And r s)) (two f o o′) i ls ≡ join (run (step r) o i ls) (run (step s) o′ i ls)
@@ -67,12 +68,16 @@ both-run r s f o o′ i (l ∷ ls) = go (λ x y. both-run r s f x y (suc i) ls) 
   where
     R : Open r → Verdict
     R o = run (step r) o (suc i) ls
+
     S : Open s → Verdict
     S o = run (step s) o (suc i) ls
+
     lateR : (o : Open r) → Late i (R o)
     lateR o = late-less i (R o) (late-run (step r) o (suc i) ls)
+
     lateS : (o : Open s) → Late i (S o)
     lateS o = late-less i (S o) (late-run (step s) o (suc i) ls)
+
     go : ((x : Open r) (y : Open s) → run (step (bracket And r s)) (two f x y) (suc i) ls ≡ join (R x) (S y)) → (x : Left (Open r)) (y : Left (Open s)) → decide i (andStep f x y) (λ o. run (step (bracket And r s)) o (suc i) ls) ≡ join (decide i x R) (decide i y S)
     go again met met = ap Satisfied (omega arith)
     go again met missed = refl
@@ -92,10 +97,12 @@ else-run r s f o i (l ∷ ls) = go (λ x. else-run r s f x (suc i) ls) (step r o
   where
     S : ℕ → List Line → Verdict
     S j ls = run (step s) (start s f) (suc j) ls
+
     later : (v : Verdict) → Late (suc i) v → elseAt v (λ j. S j (drop (suc j - suc i) ls)) ≡ elseAt v (λ j. S j (drop (suc j - i) (l ∷ ls)))
     later Pending h = refl
     later (Satisfied j) h = refl
     later (Breached j) h = let e : suc j - i ≡ suc (suc j - suc i) = omega arith in rw e refl
+
     go : ((x : Open r) → run (step (bracket Else r s)) (first f x) (suc i) ls ≡ elseAt (run (step r) x (suc i) ls) (λ j. S j (drop (suc j - suc i) ls))) → (x : Left (Open r)) → decide i (elseStep f x (start s f)) (λ o. run (step (bracket Else r s)) o (suc i) ls) ≡ elseAt (decide i x (λ o. run (step r) o (suc i) ls)) (λ j. S j (drop (suc j - i) (l ∷ ls)))
     go again met = refl
     go again missed = let e : suc i - i ≡ 1 = omega arith in rw e (run-over second (step s) (step (bracket Else r s)) (λ o k. refl) (start s f) (suc i) ls)
@@ -140,15 +147,20 @@ joinedTo-step {A} step i l ls v late (d ∷ ds) = go (joinedTo-step step i l ls 
   where
     R : A → Verdict
     R d = run step d (suc i) ls
+
     lateR : (d : A) → Late i (R d)
     lateR d = late-less i (R d) (late-run step d (suc i) ls)
+
     J : Verdict
     J = joinedTo (λ d. run step d i (l ∷ ls)) ds v
+
     lateJ : Late i J
     lateJ = late-joinedTo (λ d. run step d i (l ∷ ls)) i (λ d. late-run step d i (l ∷ ls)) ds v late
+
     more : (x : A) (k : Kept A) → join (R x) (keptV i k (λ ds′. joinedTo R ds′ v)) ≡ keptV i (addKept x k) (λ ds′. joinedTo R ds′ v)
     more x broken = join-comm (R x) (Breached i) ∙ missed-first i (R x) (lateR x)
     more x (kept ds′) = refl
+
     go : J ≡ keptV i (stepDuties step ds l) (λ ds′. joinedTo R ds′ v) → (x : Left A) → join (decide i x R) J ≡ keptV i (addDuty x (stepDuties step ds l)) (λ ds′. joinedTo R ds′ v)
     go again met = met-first i J lateJ ∙ again
     go again missed = missed-first i J lateJ
@@ -163,8 +175,10 @@ watched-run p q s f d ds i (l ∷ ls) =
   where
     R : Open s → Verdict
     R d = run (step s) d (suc i) ls
+
     E : EachOpen (Open s) → Verdict
     E o = run (step (trigger Each p q s)) o (suc i) ls
+
     go : ((d : Open s) (ds : List (Open s)) → E (watch f true (d ∷ ds)) ≡ joinedTo R (d ∷ ds) (Satisfied (suc i))) → (k : Kept (Open s)) → decide i (unlessBroken k (eachStep f Ends (start s))) E ≡ keptV i k (λ ds. joinedTo R ds (Satisfied i))
     go again broken = refl
     go again (kept []) = refl
@@ -179,6 +193,7 @@ late-each p q s inside f i (l ∷ ls) = go (late-less i rest (late-each p q s in
   where
     rest : Verdict
     rest = triggerV Each p q (V s) f (suc i) ls
+
     go : Late i rest → (m : Effect) → Late i (triggerAt Each i m (λ g. V s g (suc i) ls) rest)
     go lateRest Ends = le-refl i
     go lateRest (Acts g) = late-join i (V s g (suc i) ls) rest (late-less i (V s g (suc i) ls) (rw (inside g (suc i) ls) (late-run (step s) (start s g) (suc i) ls))) lateRest
@@ -193,10 +208,13 @@ watch-run p q s inside f ds i (l ∷ ls) =
   where
     R : Open s → Verdict
     R d = run (step s) d (suc i) ls
+
     E : EachOpen (Open s) → Verdict
     E o = run (step (trigger Each p q s)) o (suc i) ls
+
     rest : Verdict
     rest = triggerV Each p q (V s) f (suc i) ls
+
     go : ((ds : List (Open s)) → E (watch f false ds) ≡ joinedTo R ds rest) → (m : Effect) (k : Kept (Open s)) → decide i (unlessBroken k (eachStep f m (start s))) E ≡ keptV i k (λ ds. joinedTo R ds (triggerAt Each i m (λ g. V s g (suc i) ls) rest))
     go again Ends broken = refl
     go again Ends (kept []) = refl

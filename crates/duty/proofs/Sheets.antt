@@ -54,8 +54,10 @@ duty-sheet k p q n lev f i (l ∷ ls) = go k (effect p q f l) (dutyV k p q f (su
   where
     E : List Entry
     E = entry n lev false f ∷ []
+
     S : Left Bindings → List Entry
     S x = shown (entries (duty k p q) n lev) (thenLeft x (λ o. after (step (duty k p q)) o ls))
+
     go : (k : DutyKind) (m : Effect) (v : Verdict) → ifPending v E ≡ S (still f) → ifPending (dutyAt k i m v) E ≡ S (dutyStep k f m)
     go Must Ends v e = refl
     go Must (Acts g) v e = refl
@@ -72,10 +74,11 @@ once-sheet : (p q : Pattern) (s : Rule) → Lists s → (n lev : ℕ) (f : Bindi
 unfolding step entries
 once-sheet p q s inside n lev f i [] = refl
 once-sheet p q s inside n lev f i (l ∷ ls) =
-    elim (effect p q f l) as (λ m. onceAt m (λ g. sheet s (suc n) lev g (suc i) ls) (onceSheet p q (entry n lev false f) (sheet s (suc n) lev) f (suc i) ls) ≡ shown (entries (trigger Once p q s) n lev) (thenLeft (onceStep f m (start s)) (λ o. after (step (trigger Once p q s)) o ls)))
-    [ Ends ↦ refl
-    | Acts g ↦ inside (suc n) lev g (suc i) ls ∙ sym (shown-inside running (entries (trigger Once p q s) n lev) (step s) (step (trigger Once p q s)) (λ o k. refl) (start s g) ls)
-    | Passes ↦ once-sheet p q s inside n lev f (suc i) ls ]
+    elim (effect p q f l) as (λ m. onceAt m (λ g. sheet s (suc n) lev g (suc i) ls) (onceSheet p q (entry n lev false f) (sheet s (suc n) lev) f (suc i) ls) ≡ shown (entries (trigger Once p q s) n lev) (thenLeft (onceStep f m (start s)) (λ o. after (step (trigger Once p q s)) o ls))) [
+      | Ends ↦ refl
+      | Acts g ↦ inside (suc n) lev g (suc i) ls ∙ sym (shown-inside running (entries (trigger Once p q s) n lev) (step s) (step (trigger Once p q s)) (λ o k. refl) (start s g) ls)
+      | Passes ↦ once-sheet p q s inside n lev f (suc i) ls
+    ]
 
 else-sheet : (r s : Rule) (n lev : ℕ) (f : Bindings) (o : Open r) (i : ℕ) (ls : List Line) → elseSheet (run (step r) o i ls) (entry n lev false f) (shown (entries r (suc n) (suc lev)) (after (step r) o ls)) (λ j. shown (entries s (suc n + nodes r) lev) (after (step s) (start s f) (drop (suc j - i) ls))) ≡ shown (entries (bracket Else r s) n lev) (after (step (bracket Else r s)) (first f o) ls)
 unfolding step entries
@@ -84,14 +87,18 @@ else-sheet r s n lev f o i (l ∷ ls) = go (λ x. else-sheet r s n lev f x (suc 
   where
     S : List Line → List Entry
     S ls = shown (entries s (suc n + nodes r) lev) (after (step s) (start s f) ls)
+
     R : Open r → List Entry
     R o = shown (entries r (suc n) (suc lev)) (after (step r) o ls)
+
     E : ElseOpen (Open r) (Open s) → List Entry
     E o = shown (entries (bracket Else r s) n lev) (after (step (bracket Else r s)) o ls)
+
     later : (v : Verdict) (es : List Entry) → Late (suc i) v → elseSheet v (entry n lev false f) es (λ j. S (drop (suc j - i) (l ∷ ls))) ≡ elseSheet v (entry n lev false f) es (λ j. S (drop (suc j - suc i) ls))
     later Pending es h = refl
     later (Satisfied j) es h = refl
     later (Breached j) es h = let e : suc j - i ≡ suc (suc j - suc i) = omega arith in rw e refl
+
     go : ((x : Open r) → elseSheet (run (step r) x (suc i) ls) (entry n lev false f) (R x) (λ j. S (drop (suc j - suc i) ls)) ≡ E (first f x)) → (x : Left (Open r)) → elseSheet (decide i x (λ o. run (step r) o (suc i) ls)) (entry n lev false f) (shown (entries r (suc n) (suc lev)) (thenLeft x (λ o. after (step r) o ls))) (λ j. S (drop (suc j - i) (l ∷ ls))) ≡ shown (entries (bracket Else r s) n lev) (thenLeft (elseStep f x (start s f)) (λ o. after (step (bracket Else r s)) o ls))
     go again met = refl
     go again missed = let e : suc i - i ≡ 1 = omega arith in rw e (sym (shown-inside second (entries (bracket Else r s) n lev) (step s) (step (bracket Else r s)) (λ o k. refl) (start s f) ls))
@@ -124,18 +131,25 @@ and-sheet r s n lev f o o′ i (l ∷ ls) = go (λ x y. and-sheet r s n lev f x 
   where
     VR : Open r → Verdict
     VR o = run (step r) o (suc i) ls
+
     VS : Open s → Verdict
     VS o = run (step s) o (suc i) ls
+
     R : Left (Open r) → ℕ → List Entry
     R x lev = shown (entries r (suc n) lev) (thenLeft x (λ o. after (step r) o ls))
+
     S : Left (Open s) → ℕ → List Entry
     S x lev = shown (entries s (suc n + nodes r) lev) (thenLeft x (λ o. after (step s) o ls))
+
     E : AndOpen (Open r) (Open s) → List Entry
     E o = shown (entries (bracket And r s) n lev) (after (step (bracket And r s)) o ls)
+
     head : Entry
     head = entry n lev false f
+
     A : Left (Open r) → Left (Open s) → List Entry
     A x y = andSheet (decide i x VR) (decide i y VS) head lev (R x) (S y)
+
     go : ((x : Open r) (y : Open s) → A (still x) (still y) ≡ E (two f x y)) → (x : Left (Open r)) (y : Left (Open s)) → A x y ≡ shown (entries (bracket And r s) n lev) (thenLeft (andStep f x y) (λ o. after (step (bracket And r s)) o ls))
     go again met met = refl
     go again met missed = refl
@@ -167,6 +181,7 @@ kept-same {A} k step l ls (d ∷ ds) = go (step d l) (stepDuties step ds l) (tog
   where
     h : A → List Entry
     h d = shown k (after step d ls)
+
     go : (x : Left A) (ks : Kept A) (es : List Entry) → KeptSame h ks es → KeptSame h (addDuty x ks) (shown k (thenLeft x (λ o. after step o ls)) ++ es)
     go met ks es e = e
     go missed ks es e = tt
@@ -192,22 +207,30 @@ each-sheet p q s inside n lev f m ds i (l ∷ ls) =
   where
     D : Open s → List Entry
     D d = shown (entries s (suc n) (suc lev)) (after (step s) d ls)
+
     VE : EachOpen (Open s) → Verdict
     VE o = run (step (trigger Each p q s)) o (suc i) ls
+
     E : EachOpen (Open s) → List Entry
     E o = shown (entries (trigger Each p q s) n lev) (after (step (trigger Each p q s)) o ls)
+
     new : List Entry
     new = duties p q (sheet s (suc n) (suc lev)) f (suc i) ls
+
     head : Bool → Entry
     head k = entry n lev k f
+
     Goal : Bool → Effect → Kept (Open s) → List Entry → Type 0
     Goal m x ks es = ifPending (decide i (unlessBroken ks (eachStep f (eachEffect m x) (start s))) VE) (head (markThen m (endedAt x (ended p q f ls))) ∷ (es ++ newThen m (dutiesAt x (λ g. sheet s (suc n) (suc lev) g (suc i) ls) new))) ≡ shown (entries (trigger Each p q s) n lev) (thenLeft (unlessBroken ks (eachStep f (eachEffect m x) (start s))) (λ o. after (step (trigger Each p q s)) o ls))
+
     Again : Type 0
     Again = (m : Bool) (ds : List (Open s)) → ifPending (VE (watch f m ds)) (head (markThen m (ended p q f ls)) ∷ (together D ds ++ newThen m new)) ≡ E (watch f m ds)
+
     opened : (g : Bindings) (ds : List (Open s)) → together D ds ++ (sheet s (suc n) (suc lev) g (suc i) ls ++ new) ≡ together D (ds ++ (start s g ∷ [])) ++ new
     opened g ds =
         ap (λ es. together D ds ++ (es ++ new)) (inside (suc n) (suc lev) g (suc i) ls)
         ∙ (sym (append-assoc (together D ds) (D (start s g)) new) ∙ ap (λ es. es ++ new) (sym (together-more D ds (start s g))))
+
     go : Again → (m : Bool) (x : Effect) (ks : Kept (Open s)) (es : List Entry) → KeptSame D ks es → Goal m x ks es
     go again m x broken es e = refl
     go again true x (kept []) es e = refl

@@ -34,6 +34,7 @@ group-length lev (e ∷ es) rest (suc m) g s w ends = go (le-or m (length es)) (
   where
     whole : length (es ++ rest) ≡ length es + length rest
     whole = length-append es rest
+
     go : (m ≤ length es) ⊎ (length es < m) → (length es ≤ m) ⊎ (m < length es) → suc m ≡ suc (length es)
     go (inl a) (inl b) = omega arith
     go (inl a) (inr b) =

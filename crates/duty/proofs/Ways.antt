@@ -67,6 +67,7 @@ closed-acts s n lev p f g ds count d d′ m e a = subst (λ m. Closed s n lev p 
   where
     E : Open s → List Entry
     E = entries s (p .node) (p .level)
+
     go : (es : List Entry) → Drafted d (es ++ (entry n lev false f ∷ together E ds)) → count ≡ min (length es) 257 → Drafted d′ (es ++ (entry n lev false f ∷ together E (ds ++ (start s g ∷ []))))
     go es h k =
         subst (Drafted d′) (append-assoc es (entry n lev false f ∷ together E ds) (E (start s g)) ∙ ap (λ x. es ++ (entry n lev false f ∷ x)) (together-more E ds (start s g))) (a (es ++ (entry n lev false f ∷ together E ds)) h)

@@ -1,4 +1,5 @@
 pub mod Matching
+pub mod Clashes
 pub mod Verdicts
 pub mod Sheet
 pub mod Open

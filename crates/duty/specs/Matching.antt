@@ -1,5 +1,5 @@
 -- When a pattern matches a line, and which letters it then gives. Assumes nothing.
-use mathlib.Core.Bool.{Bool, true, false, cond, not, _&&_}
+use mathlib.Core.Bool.{Bool, true, cond, _&&_}
 use mathlib.Core.List.{List, [], _∷_}
 use Prim.Native.Nat.{ℕ, _+_, _*_}
 use lib.Dec.{leb, eqb}
@@ -72,15 +72,6 @@ agreed None a y f = Some (set f (letterIndex a) (Some y))
 abbrev pub agrees : Operand → ℕ → Bindings → Option Bindings
 agrees (operand.Number x) y f = cond (eqb x y) (Some f) None
 agrees (operand.Bound a) y f = agreed (bound f a) a y f
-
--- what rules a binder out, whichever letters others bind
-abbrev pub clashed : Option ℕ → ℕ → Bool
-clashed None y = false
-clashed (Some x) y = not (eqb x y)
-
-abbrev pub clashes : Operand → ℕ → Bindings → Bool
-clashes (operand.Number x) y f = not (eqb x y)
-clashes (operand.Bound a) y f = clashed (bound f a) y
 
 abbrev pub andThen : {A B : Type 0} → Option A → (A → Option B) → Option B
 andThen None g = None

@@ -16,16 +16,11 @@ use Rattle.duty.specs.declared.matching.Effect.the-variants.{Ends, Acts, Passe
 use Rattle.duty.specs.declared.verdicts.Verdict.{Verdict}
 use Rattle.duty.specs.declared.verdicts.Verdict.the-variants.{Pending, Satisfied, Breached}
 
--- the number of a verdict and the line that decided it, 0 while there is none
-abbrev pub verdictNumber : Verdict → ℕ
-verdictNumber Pending = 0
-verdictNumber (Satisfied j) = 1
-verdictNumber (Breached j) = 2
-
-abbrev pub decidingLine : Verdict → ℕ
-decidingLine Pending = 0
-decidingLine (Satisfied j) = j
-decidingLine (Breached j) = j
+-- the number of a verdict, and the line that decided it, 0 while there is none
+abbrev pub verdictNumbers : Verdict → ℕ × ℕ
+verdictNumbers Pending = (0, 0)
+verdictNumbers (Satisfied j) = (1, j)
+verdictNumbers (Breached j) = (2, j)
 
 -- breached at the smallest breaching line if either is breached; else pending if either is; else satisfied
 -- at the larger line

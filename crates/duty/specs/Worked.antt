@@ -32,8 +32,18 @@ abbrev pub orZeros : Result Line Field → Line
 orZeros (Ok l) = l
 orZeros (Err f) =
     record {
-      time = 0; kind = 0; machine = 0; crew = 0; run = 0; reading = 0;
-      timed = lit≤ tt; kinded = lit≤ tt; machined = lit≤ tt; crewed = lit≤ tt; ran = lit≤ tt; read = lit≤ tt;
+      time = 0;
+      kind = 0;
+      machine = 0;
+      crew = 0;
+      run = 0;
+      reading = 0;
+      timed = lit≤ tt;
+      kinded = lit≤ tt;
+      machined = lit≤ tt;
+      crewed = lit≤ tt;
+      ran = lit≤ tt;
+      read = lit≤ tt;
     }
 
 abbrev pub ofKind : ℕ → Line

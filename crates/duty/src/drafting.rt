@@ -8,6 +8,7 @@ ghost use Rattle.duty.specs.Sheet.{entry};
 ghost use Rattle.duty.specs.Drafts.{Drafted, Adds};
 ghost use Rattle.duty.specs.declared.entries.Entry.{Entry};
 use crate::drafts::Draft;
+use crate::drafts::PLACES;
 use crate::entries::Entry;
 use crate::places::Place;
 use std::alloc::AllocError;
@@ -17,7 +18,7 @@ impl Draft {
     pub fn new(heap: Global) -> Result<Draft, AllocError>
         ensures { λ r. ⌜ made r (λ d. Drafted d []) ⌝ }
     {
-        let entries = Vec::with_capacity(heap, 256)?;
+        let entries = Vec::with_capacity(heap, PLACES)?;
         Ok(Draft { entries, count: 0 })
     }
 
@@ -25,7 +26,7 @@ impl Draft {
     pub fn write(&mut self, place: Place, mark: bool, letters: &[Option<u32>; 8])
         ensures { λ _. ⌜ Adds (now (self .entry)) (now (self .exit)) (entry (place .node) (place .level) mark (now (letters .entry)) ∷ []) ⌝ }
     {
-        if self.count < 256 {
+        if self.count < PLACES {
             self.entries.push_reserved(Entry {
                 node: place.node,
                 level: place.level,
@@ -34,7 +35,7 @@ impl Draft {
             });
             self.count += 1;
         } else {
-            self.count = 257;
+            self.count = PLACES + 1;
         }
     }
 

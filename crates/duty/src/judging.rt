@@ -44,7 +44,14 @@ fn verdict_at(outcome: Outcome, number: u32) -> Verdict
 }
 
 // A decided rule stays so, and has no entries.
-fn judge_rule(rule: &Rule, verdict: Verdict, entries: &[Entry], line: &Line, number: u32, draft: &mut Draft) -> Judged
+fn judge_rule(
+    rule: &Rule,
+    verdict: Verdict,
+    entries: &[Entry],
+    line: &Line,
+    number: u32,
+    draft: &mut Draft,
+) -> Judged
     requires size { ⌜ nodes (pureRule (now rule)) ≤ 64 ⌝ }
     requires nesting { ⌜ depth (pureRule (now rule)) ≤ 8 ⌝ }
     requires numbers { ⌜ ruleNumber (pureRule (now rule)) ≤ 9999999 ⌝ }
@@ -68,7 +75,15 @@ fn judge_rule(rule: &Rule, verdict: Verdict, entries: &[Entry], line: &Line, num
 }
 
 // Writes the verdicts of the rules and their entries after one more line.
-pub fn judge_rules(rules: &[Rule], verdicts: &[Verdict], sheet: &[Entry], line: &Line, number: u32, next: &mut Vec<Verdict>, draft: &mut Draft)
+pub fn judge_rules(
+    rules: &[Rule],
+    verdicts: &[Verdict],
+    sheet: &[Entry],
+    line: &Line,
+    number: u32,
+    next: &mut Vec<Verdict>,
+    draft: &mut Draft,
+)
     requires size { ⌜ allNodes (pureRules (now rules)) ≤ 64 ⌝ }
     requires nesting { ⌜ deepest (pureRules (now rules)) ≤ 8 ⌝ }
     requires numbers { ⌜ largest (pureRules (now rules)) ≤ 9999999 ⌝ }

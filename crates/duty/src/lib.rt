@@ -5,7 +5,7 @@ pub mod entries;
 mod groups;
 mod judging;
 pub mod laws;
-pub mod matching;
+mod matching;
 mod openings;
 mod outcomes;
 mod places;

@@ -6,7 +6,8 @@ ghost use Rattle.std.specs.declared.option.Option.the-variants.{None};
 ghost use Rattle.feed.specs.Lines.{value};
 ghost use Rattle.book.specs.Sizes.{partNumber, sumNumber, conditionsNumber, patternNumber};
 ghost use Rattle.book.specs.Trees.{purePattern};
-ghost use Rattle.duty.specs.Matching.{Bindings, partValue, sumValue, holds, allHold, agrees, clashes, bind, matches, effect};
+ghost use Rattle.duty.specs.Clashes.{clashes};
+ghost use Rattle.duty.specs.Matching.{Bindings, partValue, sumValue, holds, allHold, agrees, bind, matches, effect};
 use book::terms::Binder;
 use book::terms::Condition;
 use book::terms::Operand;
@@ -47,7 +48,9 @@ fn sum_value(sum: Sum, letters: &[Option<u32>; 8]) -> u64
     match sum {
         Sum::One(x) => part_value(x, letters),
         Sum::Two(x, y) => part_value(x, letters) + part_value(y, letters),
-        Sum::Three(x, y, z) => part_value(x, letters) + part_value(y, letters) + part_value(z, letters),
+        Sum::Three(x, y, z) => part_value(x, letters)
+            + part_value(y, letters)
+            + part_value(z, letters),
     }
 }
 
@@ -78,18 +81,18 @@ fn all_hold(conditions: &[Condition], letters: &[Option<u32>; 8]) -> bool
 }
 
 // The letters with what one binder adds, or none where it does not agree with the line.
-fn agreed_letters(binder: Binder, line: &Line, letters: [Option<u32>; 8]) -> Option<[Option<u32>; 8]>
+fn agreed_letters(
+    binder: Binder,
+    line: &Line,
+    letters: [Option<u32>; 8],
+) -> Option<[Option<u32>; 8]>
     ensures { λ r. ⌜ r ≡ agrees (binder .operand) (value (now (line .entry)) (binder .field)) letters ⌝ }
 {
     let value = line.value(binder.field);
     match binder.operand {
-        Operand::Number(number) => {
-            if number == value { Some(letters) } else { None }
-        }
+        Operand::Number(number) => { if number == value { Some(letters) } else { None } }
         Operand::Bound(letter) => match letters[letter.index()] {
-            Some(number) => {
-                if number == value { Some(letters) } else { None }
-            }
+            Some(number) => { if number == value { Some(letters) } else { None } }
             None => {
                 let mut enlarged = letters;
                 enlarged[letter.index()] = Some(value);
@@ -99,7 +102,11 @@ fn agreed_letters(binder: Binder, line: &Line, letters: [Option<u32>; 8]) -> Opt
     }
 }
 
-fn bound_letters(binders: &[Binder], line: &Line, letters: [Option<u32>; 8]) -> Option<[Option<u32>; 8]>
+fn bound_letters(
+    binders: &[Binder],
+    line: &Line,
+    letters: [Option<u32>; 8],
+) -> Option<[Option<u32>; 8]>
     ensures { λ r. ⌜ r ≡ bind (now (binders .entry)) (now (line .entry)) letters ⌝ }
 {
     let mut bound = letters;
@@ -137,18 +144,29 @@ fn ruled_out(binders: &[Binder], line: &Line, letters: &[Option<u32>; 8]) -> boo
 }
 
 // The letters that a match gives, enlarged by the new ones.
-pub fn matched(pattern: &Pattern, line: &Line, letters: &[Option<u32>; 8]) -> Option<[Option<u32>; 8]>
+pub fn matched(
+    pattern: &Pattern,
+    line: &Line,
+    letters: &[Option<u32>; 8],
+) -> Option<[Option<u32>; 8]>
     requires { ⌜ patternNumber (purePattern (now pattern)) ≤ 9999999 ⌝ }
     ensures { λ r. ⌜ r ≡ matches (purePattern (now (pattern .entry))) (now (line .entry)) (now (letters .entry)) ⌝ }
 {
     match pattern {
         Pattern::Never => None,
-        Pattern::Lines { binders, conditions } => {
+        Pattern::Lines {
+            binders,
+            conditions,
+        } => {
             if ruled_out(binders, line, letters) {
                 return None;
             }
             let bound = bound_letters(binders, line, *letters)?;
-            if all_hold(conditions, &bound) { Some(bound) } else { None }
+            if all_hold(conditions, &bound) {
+                Some(bound)
+            } else {
+                None
+            }
         }
     }
 }

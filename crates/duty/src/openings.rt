@@ -34,7 +34,12 @@ pub fn open_rule(rule: &Rule, place: Place, letters: &[Option<u32>; 8], draft: &
             open_rule(first, place.below(1), letters, draft);
             match kind {
                 BracketKind::Else => {}
-                BracketKind::And => open_rule(second, place.below(1 + count_nodes(first)), letters, draft),
+                BracketKind::And => open_rule(
+                    second,
+                    place.below(1 + count_nodes(first)),
+                    letters,
+                    draft,
+                ),
             }
         }
         _ => {}

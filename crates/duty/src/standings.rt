@@ -23,9 +23,9 @@ struct State {
 #[derive(Drop)]
 pub struct Standing {
     state: State,
-    verdicts: Vec<Verdict>,
+    next: Vec<Verdict>,
     draft: Draft,
-    ghost room: { vec-len (state .book .rules) ≤ vec-cap verdicts },
+    ghost room: { vec-len (state .book .rules) ≤ vec-cap next },
 }
 
 // With this line the sheet would need more than its 256 places.

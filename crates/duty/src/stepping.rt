@@ -32,7 +32,13 @@ use book::rules::Rule;
 use feed::lines::Line;
 
 // What one line leaves of a rule whose entries are this group; a decided rule writes none.
-pub fn step_rule(rule: &Rule, place: Place, group: &[Entry], line: &Line, draft: &mut Draft) -> Outcome
+pub fn step_rule(
+    rule: &Rule,
+    place: Place,
+    group: &[Entry],
+    line: &Line,
+    draft: &mut Draft,
+) -> Outcome
     requires { ⌜ Placed place (pureRule (now rule)) ⌝ }
     ensures { λ r. ⌜ StepsAt (pureRule (now (rule .entry))) place (now (group .entry)) (now (line .entry)) (now (draft .entry)) r (now (draft .exit)) ⌝ }
 {
@@ -56,7 +62,15 @@ pub fn step_rule(rule: &Rule, place: Place, group: &[Entry], line: &Line, draft:
 }
 
 // A `once` waits while its own node heads the group; else its duty runs.
-fn step_once(start: &Pattern, end: &Pattern, duty: &Rule, place: Place, group: &[Entry], line: &Line, draft: &mut Draft) -> Outcome
+fn step_once(
+    start: &Pattern,
+    end: &Pattern,
+    duty: &Rule,
+    place: Place,
+    group: &[Entry],
+    line: &Line,
+    draft: &mut Draft,
+) -> Outcome
     requires placed { ⌜ Placed place (trigger Once (purePattern (now start)) (purePattern (now end)) (pureRule (now duty))) ⌝ }
     requires some { ⌜ 0 < length (now group) ⌝ }
     ensures { λ r. ⌜ StepsAt (trigger Once (purePattern (now (start .entry))) (purePattern (now (end .entry))) (pureRule (now (duty .entry)))) place (now (group .entry)) (now (line .entry)) (now (draft .entry)) r (now (draft .exit)) ⌝ }
@@ -70,7 +84,15 @@ fn step_once(start: &Pattern, end: &Pattern, duty: &Rule, place: Place, group: &
 }
 
 // An `each` and its duties: a breach of one breaches it.
-fn step_each(start: &Pattern, end: &Pattern, duty: &Rule, place: Place, group: &[Entry], line: &Line, draft: &mut Draft) -> Outcome
+fn step_each(
+    start: &Pattern,
+    end: &Pattern,
+    duty: &Rule,
+    place: Place,
+    group: &[Entry],
+    line: &Line,
+    draft: &mut Draft,
+) -> Outcome
     requires placed { ⌜ Placed place (trigger Each (purePattern (now start)) (purePattern (now end)) (pureRule (now duty))) ⌝ }
     requires some { ⌜ 0 < length (now group) ⌝ }
     ensures { λ r. ⌜ StepsAt (trigger Each (purePattern (now (start .entry))) (purePattern (now (end .entry))) (pureRule (now (duty .entry)))) place (now (group .entry)) (now (line .entry)) (now (draft .entry)) r (now (draft .exit)) ⌝ }
@@ -90,7 +112,13 @@ fn step_each(start: &Pattern, end: &Pattern, duty: &Rule, place: Place, group: &
 }
 
 // The duties of an `each`, oldest first: satisfied when none is left. On an idle line plain duties are only copied.
-fn step_duties(duty: &Rule, place: Place, below: &[Entry], line: &Line, draft: &mut Draft) -> Outcome
+fn step_duties(
+    duty: &Rule,
+    place: Place,
+    below: &[Entry],
+    line: &Line,
+    draft: &mut Draft,
+) -> Outcome
     requires { ⌜ Placed place (pureRule (now duty)) ⌝ }
     ensures { λ r. ⌜ DutiesStepAt (pureRule (now (duty .entry))) place (now (below .entry)) (now (line .entry)) (now (draft .entry)) r (now (draft .exit)) ⌝ }
 {
@@ -113,13 +141,20 @@ fn step_duties(duty: &Rule, place: Place, below: &[Entry], line: &Line, draft: &
 
 // An `else` is in its first rule while its own node heads the group; a breach there begins the second rule, which
 // is not shown the line.
-fn step_else(first: &Rule, second: &Rule, place: Place, group: &[Entry], line: &Line, draft: &mut Draft) -> Outcome
+fn step_else(
+    first: &Rule,
+    second: &Rule,
+    place: Place,
+    group: &[Entry],
+    line: &Line,
+    draft: &mut Draft,
+) -> Outcome
     requires placed { ⌜ Placed place (bracket Else (pureRule (now first)) (pureRule (now second))) ⌝ }
     requires some { ⌜ 0 < length (now group) ⌝ }
     ensures { λ r. ⌜ StepsAt (bracket Else (pureRule (now (first .entry))) (pureRule (now (second .entry)))) place (now (group .entry)) (now (line .entry)) (now (draft .entry)) r (now (draft .exit)) ⌝ }
 {
-    let substitute = place.inside(1 + count_nodes(first));
     if group[0].node != place.node {
+        let substitute = place.inside(1 + count_nodes(first));
         return step_rule(second, substitute, group, line, draft);
     }
     let letters = &group[0].letters;
@@ -132,6 +167,7 @@ fn step_else(first: &Rule, second: &Rule, place: Place, group: &[Entry], line: &
         }
         Outcome::Breached => {
             draft.cut(count);
+            let substitute = place.inside(1 + count_nodes(first));
             open_rule(second, substitute, letters, draft);
             Outcome::Open
         }
@@ -140,7 +176,14 @@ fn step_else(first: &Rule, second: &Rule, place: Place, group: &[Entry], line: &
 }
 
 // An `and` has both sides while its own node heads the group; else the node tells which side is left.
-fn step_and(left: &Rule, right: &Rule, place: Place, group: &[Entry], line: &Line, draft: &mut Draft) -> Outcome
+fn step_and(
+    left: &Rule,
+    right: &Rule,
+    place: Place,
+    group: &[Entry],
+    line: &Line,
+    draft: &mut Draft,
+) -> Outcome
     requires placed { ⌜ Placed place (bracket And (pureRule (now left)) (pureRule (now right))) ⌝ }
     requires some { ⌜ 0 < length (now group) ⌝ }
     ensures { λ r. ⌜ StepsAt (bracket And (pureRule (now (left .entry))) (pureRule (now (right .entry)))) place (now (group .entry)) (now (line .entry)) (now (draft .entry)) r (now (draft .exit)) ⌝ }
@@ -159,17 +202,23 @@ fn step_and(left: &Rule, right: &Rule, place: Place, group: &[Entry], line: &Lin
 
 // Both sides of an `and`. Where the line satisfies one of them, the other takes the bracket's place, and so it is
 // stepped again, at the bracket's own level.
-fn step_both(left: &Rule, right: &Rule, place: Place, group: &[Entry], line: &Line, draft: &mut Draft) -> Outcome
+fn step_both(
+    left: &Rule,
+    right: &Rule,
+    place: Place,
+    group: &[Entry],
+    line: &Line,
+    draft: &mut Draft,
+) -> Outcome
     requires placed { ⌜ Placed place (bracket And (pureRule (now left)) (pureRule (now right))) ⌝ }
     requires some { ⌜ 0 < length (now group) ⌝ }
     ensures { λ r. ⌜ BothStepAt (pureRule (now (left .entry))) (pureRule (now (right .entry))) place (now (group .entry)) (now (line .entry)) (now (draft .entry)) r (now (draft .exit)) ⌝ }
 {
-    let letters = &group[0].letters;
     let below = &group[1..];
     let n = group_len(below);
     let ahead = 1 + count_nodes(left);
     let count = draft.count;
-    draft.write(place, false, letters);
+    draft.write(place, false, &group[0].letters);
     let a = step_rule(left, place.below(1), &below[0..n], line, draft);
     let b = step_rule(right, place.below(ahead), &below[n..], line, draft);
     match sides_of(a, b) {

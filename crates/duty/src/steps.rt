@@ -24,7 +24,15 @@ use book::rules::Rule;
 use feed::lines::Line;
 
 // A duty under these letters: the deadline before the act.
-pub fn step_duty(kind: DutyKind, act: &Pattern, deadline: &Pattern, place: Place, letters: &[Option<u32>; 8], line: &Line, draft: &mut Draft) -> Outcome
+pub fn step_duty(
+    kind: DutyKind,
+    act: &Pattern,
+    deadline: &Pattern,
+    place: Place,
+    letters: &[Option<u32>; 8],
+    line: &Line,
+    draft: &mut Draft,
+) -> Outcome
     requires { ⌜ Placed place (dutyRule kind (purePattern (now act)) (purePattern (now deadline))) ⌝ }
     ensures { λ r. ⌜ Came (dutyRule kind (purePattern (now (act .entry))) (purePattern (now (deadline .entry)))) (place .node) (place .level) (dutyStep kind (now (letters .entry)) (effectAt (purePattern (now (act .entry))) (purePattern (now (deadline .entry))) (now (letters .entry)) (now (line .entry)))) (now (draft .entry)) (now (draft .exit)) r ⌝ }
 {
@@ -45,7 +53,15 @@ pub fn step_duty(kind: DutyKind, act: &Pattern, deadline: &Pattern, place: Place
 }
 
 // A `once` that has not been triggered. The line that triggers it is not shown to its duty.
-pub fn step_waiting(start: &Pattern, end: &Pattern, duty: &Rule, place: Place, letters: &[Option<u32>; 8], line: &Line, draft: &mut Draft) -> Outcome
+pub fn step_waiting(
+    start: &Pattern,
+    end: &Pattern,
+    duty: &Rule,
+    place: Place,
+    letters: &[Option<u32>; 8],
+    line: &Line,
+    draft: &mut Draft,
+) -> Outcome
     requires { ⌜ Placed place (trigger Once (purePattern (now start)) (purePattern (now end)) (pureRule (now duty))) ⌝ }
     ensures { λ r. ⌜ Came (trigger Once (purePattern (now (start .entry))) (purePattern (now (end .entry))) (pureRule (now (duty .entry)))) (place .node) (place .level) (onceStep (now (letters .entry)) (effectAt (purePattern (now (start .entry))) (purePattern (now (end .entry))) (now (letters .entry)) (now (line .entry))) (starting (pureRule (now (duty .entry))))) (now (draft .entry)) (now (draft .exit)) r ⌝ }
 {
@@ -63,7 +79,13 @@ pub fn step_waiting(start: &Pattern, end: &Pattern, duty: &Rule, place: Place, l
 }
 
 // What a line does to an `each`: one that is marked has ended, and looks at no line.
-pub fn each_effect(start: &Pattern, end: &Pattern, mark: bool, letters: &[Option<u32>; 8], line: &Line) -> Effect
+pub fn each_effect(
+    start: &Pattern,
+    end: &Pattern,
+    mark: bool,
+    letters: &[Option<u32>; 8],
+    line: &Line,
+) -> Effect
     requires start { ⌜ patternNumber (purePattern (now start)) ≤ 9999999 ⌝ }
     requires end { ⌜ patternNumber (purePattern (now end)) ≤ 9999999 ⌝ }
     ensures { λ r. ⌜ r ≡ eachEffect mark (effectAt (purePattern (now (start .entry))) (purePattern (now (end .entry))) (now (letters .entry)) (now (line .entry))) ⌝ }
@@ -86,7 +108,14 @@ pub fn ends_each(effect: Effect) -> bool
 
 // An `each` whose duties have stepped, none of them to a breach: it is satisfied if it has ended and no duty is
 // left; the line that acts opens one more, and is not shown to it.
-pub fn close_each(effect: Effect, left: Outcome, duty: &Rule, inner: Place, count: usize, draft: &mut Draft) -> Outcome
+pub fn close_each(
+    effect: Effect,
+    left: Outcome,
+    duty: &Rule,
+    inner: Place,
+    count: usize,
+    draft: &mut Draft,
+) -> Outcome
     requires { ⌜ Placed inner (pureRule (now duty)) ⌝ }
     ensures { λ r. ⌜ Closes (pureRule (now (duty .entry))) inner effect left count (now (draft .entry)) r (now (draft .exit)) ⌝ }
 {

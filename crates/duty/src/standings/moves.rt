@@ -6,9 +6,11 @@ ghost use lib.ListN.{length};
 ghost use Rattle.std.specs.Of.Vec.{vec-len, vec-items, vec-cap};
 ghost use Rattle.std.specs.Vec.{made};
 ghost use Rattle.feed.specs.declared.lines.Line.{Line};
+ghost use Rattle.duty.specs.Sheet.{Fits};
 ghost use Rattle.duty.specs.Judging.{JudgesAll};
 ghost use Rattle.duty.specs.Standings.{bookRules, Opened, Stands, Taken, Kept, rulesOf, verdictsOf, sheetOf};
 use crate::drafts::Draft;
+use crate::drafts::PLACES;
 use crate::entries::Entry;
 use crate::judging::judge_rules;
 use crate::judging::open_rules;
@@ -29,7 +31,15 @@ impl State {
         ensures capacity { λ _. ⌜ vec-cap (now (next .exit)) ≡ vec-cap (now (next .entry)) ⌝ }
         ensures all { λ _. ⌜ JudgesAll (bookRules (now (self .entry) .book)) (vec-items (now (self .entry) .verdicts)) (vec-items (now (self .entry) .sheet .entries)) (now (line .entry)) number (vec-items (now (next .entry))) (now (draft .entry)) (vec-items (now (next .exit))) (now (draft .exit)) ⌝ }
     {
-        judge_rules(self.book.rules(), &self.verdicts, &self.sheet.entries, line, number, next, draft);
+        judge_rules(
+            self.book.rules(),
+            &self.verdicts,
+            &self.sheet.entries,
+            line,
+            number,
+            next,
+            draft,
+        );
     }
 }
 
@@ -39,21 +49,17 @@ impl Standing {
         ensures { λ r. ⌜ made r (λ s. Opened book s) ⌝ }
     {
         let count = book.rules().len();
-        let mut judged = Vec::with_capacity(heap, count)?;
-        let verdicts = Vec::with_capacity(heap, count)?;
+        let mut verdicts = Vec::with_capacity(heap, count)?;
+        let next = Vec::with_capacity(heap, count)?;
         let mut sheet = Draft::new(heap)?;
         let draft = Draft::new(heap)?;
-        open_rules(book.rules(), &mut judged, &mut sheet);
+        open_rules(book.rules(), &mut verdicts, &mut sheet);
         let state = State {
             book,
-            verdicts: judged,
+            verdicts,
             sheet,
         };
-        Ok(Standing {
-            state,
-            verdicts,
-            draft,
-        })
+        Ok(Standing { state, next, draft })
     }
 
     // One more line, with its number in the log; or nothing changes, where the sheet after the whole line would
@@ -63,27 +69,30 @@ impl Standing {
         ensures taken { λ r. ⌜ ((log : List Line) → suc (length log) ≡ number → Stands (now (self .entry)) log → Taken r (now (self .exit)) (log ++ (now (line .entry) ∷ []))) ⌝ }
         ensures kept { λ r. ⌜ Kept r (now (self .entry)) (now (self .exit)) ⌝ }
     {
-        self.verdicts.clear();
+        self.next.clear();
         self.draft.clear();
-        self.state.judge(line, number, &mut self.verdicts, &mut self.draft);
-        if self.draft.count > 256 {
+        self.state
+            .judge(line, number, &mut self.next, &mut self.draft);
+        if self.draft.count > PLACES {
             return Err(SheetFull);
         }
-        std::mem::swap(&mut self.state.verdicts, &mut self.verdicts);
+        std::mem::swap(&mut self.state.verdicts, &mut self.next);
         std::mem::swap(&mut self.state.sheet, &mut self.draft);
         Ok(())
     }
 
     // The verdicts of the rules, in order.
     pub fn verdicts(&self) -> &[Verdict]
-        ensures { λ r. ⌜ now r ≡ verdictsOf (now (self .entry)) ⌝ }
+        ensures value { λ r. ⌜ now r ≡ verdictsOf (now (self .entry)) ⌝ }
+        ensures len { λ r. ⌜ length (now r) ≡ length (rulesOf (now (self .entry))) ⌝ }
     {
         &self.state.verdicts
     }
 
     // The open sheet.
     pub fn sheet(&self) -> &[Entry]
-        ensures { λ r. ⌜ now r ≡ sheetOf (now (self .entry)) ⌝ }
+        ensures value { λ r. ⌜ now r ≡ sheetOf (now (self .entry)) ⌝ }
+        ensures fits { λ r. ⌜ Fits (now r) ⌝ }
     {
         &self.state.sheet.entries
     }

@@ -25,12 +25,13 @@ pub loop-i-holds : need.loop-i-holds
 loop-i-holds c = (omega arith, omega arith, refl, rolls-start (c .args .rules .now) (c .args .verdicts .now) (c .args .sheet .now) (c .args .line .now) (c .args .number) (vec-items (c .args .next .now)) (c .args .draft .now))
 
 pub loop-i-again : need.loop-i-again
-loop-i-again c =
-    (omega (arith, c .judge-rule-judged .ensures .within, ap length (take-rest (c .args .sheet .now) (c .loop-i .at)), length-drop (c .loop-i .at) (c .args .sheet .now), c .loop-i .inv .0),
-    omega (arith, c .push-reserved .ensures .len, c .loop-i .inv .1),
-    c .push-reserved .ensures .capacity ∙ c .loop-i .inv .2,
-    rolls-on (c .args .rules .now) (c .args .verdicts .now) (c .loop-i .i) (c .loop-i .at) (c .args .sheet .now) (c .args .line .now) (c .args .number) (vec-items (c .args .next .now)) (vec-items (c .loop-i .next)) (vec-items (c .push-reserved .last .self)) (c .args .draft .now) (c .loop-i .draft) (c .judge-rule-judged .last .draft) (c .index-rules-i .result) _ (c .judge-rule-judged .result)
-    (c .loop-i-test .taken) (c .index-rules-i .is) (c .loop-i .inv .3) (c .judge-rule-judged .ensures .judged) (c .push-reserved .ensures .items))
+loop-i-again c = (
+  omega (arith, c .judge-rule-judged .ensures .within, ap length (take-rest (c .args .sheet .now) (c .loop-i .at)), length-drop (c .loop-i .at) (c .args .sheet .now), c .loop-i .inv .0),
+  omega (arith, c .push-reserved .ensures .len, c .loop-i .inv .1),
+  c .push-reserved .ensures .capacity ∙ c .loop-i .inv .2,
+  rolls-on (c .args .rules .now) (c .args .verdicts .now) (c .loop-i .i) (c .loop-i .at) (c .args .sheet .now) (c .args .line .now) (c .args .number) (vec-items (c .args .next .now)) (vec-items (c .loop-i .next)) (vec-items (c .push-reserved .last .self)) (c .args .draft .now) (c .loop-i .draft) (c .judge-rule-judged .last .draft) (c .index-rules-i .result) _ (c .judge-rule-judged .result)
+      (c .loop-i-test .taken) (c .index-rules-i .is) (c .loop-i .inv .3) (c .judge-rule-judged .ensures .judged) (c .push-reserved .ensures .items),
+)
 
 pub returns : need.returns
 returns c =

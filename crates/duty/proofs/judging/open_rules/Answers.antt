@@ -11,11 +11,12 @@ pub open-rule-requires : need.open-rule-requires
 open-rule-requires c κs = placed-at (c .args .rules .now) (c .loop-i .i) (c .index-rules-i .result) (c .loop-i-test .taken) (c .index-rules-i .is) (c .pre .size) (c .pre .nesting) (c .pre .numbers)
 
 pub loop-i-again : need.loop-i-again
-loop-i-again c =
-    (omega (arith, c .push-reserved .ensures .len, c .loop-i .inv .0),
-    c .push-reserved .ensures .capacity ∙ c .loop-i .inv .1,
-    opens-on (c .args .rules .now) (c .loop-i .i) (vec-items (c .args .verdicts .now)) (vec-items (c .loop-i .verdicts)) (vec-items (c .push-reserved .last .self)) (c .args .draft .now) (c .loop-i .draft) (c .open-rule .last .draft) (c .index-rules-i .result)
-    (c .loop-i-test .taken) (c .index-rules-i .is) (c .loop-i .inv .2) (c .open-rule .ensures) (c .push-reserved .ensures .items))
+loop-i-again c = (
+  omega (arith, c .push-reserved .ensures .len, c .loop-i .inv .0),
+  c .push-reserved .ensures .capacity ∙ c .loop-i .inv .1,
+  opens-on (c .args .rules .now) (c .loop-i .i) (vec-items (c .args .verdicts .now)) (vec-items (c .loop-i .verdicts)) (vec-items (c .push-reserved .last .self)) (c .args .draft .now) (c .loop-i .draft) (c .open-rule .last .draft) (c .index-rules-i .result)
+      (c .loop-i-test .taken) (c .index-rules-i .is) (c .loop-i .inv .2) (c .open-rule .ensures) (c .push-reserved .ensures .items),
+)
 
 pub returns : need.returns
 returns c =

@@ -46,7 +46,7 @@ step-both-returns-in-Both t c lev f o o′ e =
     let d₃ = c .step-rule-b .last .draft in
     let ahead = c .below-2 .ensures .node ∙ ap (λ x. p .node + (1 + x)) (c .count-nodes-ahead .ensures) in
     let w = both-stepped r s p g m (c .group-len-n .ensures .within) (c .group-len-n .ensures .ends) lev f o o′ e l (c .below .result) (c .below-2 .result) (c .args .draft .now) d₁ d₂ d₃ (c .step-rule-a .result) (c .step-rule-b .result)
-        (c .write .ensures) (c .below .ensures .node) (c .below .ensures .level) ahead (c .below-2 .ensures .level) (c .step-rule-a .ensures) (c .step-rule-b .ensures) in
+    (c .write .ensures) (c .below .ensures .node) (c .below .ensures .level) ahead (c .below-2 .ensures .level) (c .step-rule-a .ensures) (c .step-rule-b .ensures) in
     both-open r s p (c .below .result) (c .below-2 .result) l f o o′ (c .args .draft .now) d₁ d₂ d₃ (c .step-rule-a .result) (c .step-rule-b .result) w (c .sides-of .result) (c .sides-of .ensures) (c .in-Both .is)
 
 pub step-both-returns-in-Breached : need.step-both-returns-in-Breached
@@ -62,7 +62,7 @@ step-both-returns-in-Breached t c lev f o o′ e =
     let d₃ = c .step-rule-b .last .draft in
     let ahead = c .below-2 .ensures .node ∙ ap (λ x. p .node + (1 + x)) (c .count-nodes-ahead .ensures) in
     let w = both-stepped r s p g m (c .group-len-n .ensures .within) (c .group-len-n .ensures .ends) lev f o o′ e l (c .below .result) (c .below-2 .result) (c .args .draft .now) d₁ d₂ d₃ (c .step-rule-a .result) (c .step-rule-b .result)
-        (c .write .ensures) (c .below .ensures .node) (c .below .ensures .level) ahead (c .below-2 .ensures .level) (c .step-rule-a .ensures) (c .step-rule-b .ensures) in
+    (c .write .ensures) (c .below .ensures .node) (c .below .ensures .level) ahead (c .below-2 .ensures .level) (c .step-rule-a .ensures) (c .step-rule-b .ensures) in
     both-breached r s p (c .below .result) (c .below-2 .result) l f o o′ (c .args .draft .now) d₁ d₂ d₃ (c .step-rule-a .result) (c .step-rule-b .result) w (c .sides-of .result) (c .sides-of .ensures) (c .cut .last .self) (c .cut .ensures) (c .in-Breached .is)
 
 pub step-both-returns-in-Satisfied : need.step-both-returns-in-Satisfied
@@ -78,7 +78,7 @@ step-both-returns-in-Satisfied t c lev f o o′ e =
     let d₃ = c .step-rule-b .last .draft in
     let ahead = c .below-2 .ensures .node ∙ ap (λ x. p .node + (1 + x)) (c .count-nodes-ahead .ensures) in
     let w = both-stepped r s p g m (c .group-len-n .ensures .within) (c .group-len-n .ensures .ends) lev f o o′ e l (c .below .result) (c .below-2 .result) (c .args .draft .now) d₁ d₂ d₃ (c .step-rule-a .result) (c .step-rule-b .result)
-        (c .write .ensures) (c .below .ensures .node) (c .below .ensures .level) ahead (c .below-2 .ensures .level) (c .step-rule-a .ensures) (c .step-rule-b .ensures) in
+    (c .write .ensures) (c .below .ensures .node) (c .below .ensures .level) ahead (c .below-2 .ensures .level) (c .step-rule-a .ensures) (c .step-rule-b .ensures) in
     both-met r s p (c .below .result) (c .below-2 .result) l f o o′ (c .args .draft .now) d₁ d₂ d₃ (c .step-rule-a .result) (c .step-rule-b .result) w (c .sides-of .result) (c .sides-of .ensures) (c .cut-in-Satisfied .last .self) (c .cut-in-Satisfied .ensures) (c .in-Satisfied .is)
 
 pub step-both-returns-in-Left : need.step-both-returns-in-Left
@@ -94,7 +94,7 @@ step-both-returns-in-Left t c lev f o o′ e =
     let d₃ = c .step-rule-b .last .draft in
     let ahead = c .below-2 .ensures .node ∙ ap (λ x. p .node + (1 + x)) (c .count-nodes-ahead .ensures) in
     let w = both-stepped r s p g m (c .group-len-n .ensures .within) (c .group-len-n .ensures .ends) lev f o o′ e l (c .below .result) (c .below-2 .result) (c .args .draft .now) d₁ d₂ d₃ (c .step-rule-a .result) (c .step-rule-b .result)
-        (c .write .ensures) (c .below .ensures .node) (c .below .ensures .level) ahead (c .below-2 .ensures .level) (c .step-rule-a .ensures) (c .step-rule-b .ensures) in
+    (c .write .ensures) (c .below .ensures .node) (c .below .ensures .level) ahead (c .below-2 .ensures .level) (c .step-rule-a .ensures) (c .step-rule-b .ensures) in
     one-left r s p (c .below .result) (c .below-2 .result) l f o o′ (c .args .draft .now) d₁ d₂ d₃ (c .step-rule-a .result) (c .step-rule-b .result) w (c .sides-of .result) (c .sides-of .ensures) (c .cut-in-Left .last .self) (c .cut-in-Left .ensures) (c .in-Left .is) (c .inside .result) (c .step-rule .last .draft) (c .step-rule .result) (c .inside .ensures .node) (c .inside .ensures .level)
     (left-part r s p g m (c .group-len-n .ensures .within) (c .group-len-n .ensures .ends) lev f o o′ e l (c .inside .result) (c .cut-in-Left .last .self) (c .step-rule .last .draft) (c .step-rule .result) (c .inside .ensures .node) (c .step-rule .ensures))
 
@@ -111,7 +111,7 @@ step-both-returns-in-Right t c lev f o o′ e =
     let d₃ = c .step-rule-b .last .draft in
     let ahead = c .below-2 .ensures .node ∙ ap (λ x. p .node + (1 + x)) (c .count-nodes-ahead .ensures) in
     let w = both-stepped r s p g m (c .group-len-n .ensures .within) (c .group-len-n .ensures .ends) lev f o o′ e l (c .below .result) (c .below-2 .result) (c .args .draft .now) d₁ d₂ d₃ (c .step-rule-a .result) (c .step-rule-b .result)
-        (c .write .ensures) (c .below .ensures .node) (c .below .ensures .level) ahead (c .below-2 .ensures .level) (c .step-rule-a .ensures) (c .step-rule-b .ensures) in
+    (c .write .ensures) (c .below .ensures .node) (c .below .ensures .level) ahead (c .below-2 .ensures .level) (c .step-rule-a .ensures) (c .step-rule-b .ensures) in
     let there = c .inside-in-Right .ensures .node ∙ ap (λ x. p .node + (1 + x)) (c .count-nodes-ahead .ensures) in
     one-right r s p (c .below .result) (c .below-2 .result) l f o o′ (c .args .draft .now) d₁ d₂ d₃ (c .step-rule-a .result) (c .step-rule-b .result) w (c .sides-of .result) (c .sides-of .ensures) (c .cut-in-Right .last .self) (c .cut-in-Right .ensures) (c .in-Right .is) (c .inside-in-Right .result) (c .step-rule-in-Right .last .draft) (c .step-rule-in-Right .result) there (c .inside-in-Right .ensures .level)
     (right-part r s p g m (c .group-len-n .ensures .within) (c .group-len-n .ensures .ends) lev f o o′ e l (c .inside-in-Right .result) (c .cut-in-Right .last .self) (c .step-rule-in-Right .last .draft) (c .step-rule-in-Right .result) there (c .step-rule-in-Right .ensures))
@@ -132,13 +132,18 @@ step-duties-returns-in-Breached t c lev ds e =
 
 pub step-duties-loop-at-again : need.step-duties-loop-at-again
 step-duties-loop-at-again t c =
-    elim (c .match-step-rule .came)
-    [ step-duties-in-Satisfied w ↦ (omega (arith, c .group-len-n .ensures .within, ap length (take-rest (c .args .below .now) (c .loop-at .at)), length-drop (c .loop-at .at) (c .args .below .now), c .loop-at .inv .0),
-      λ lev ds e. subst (λ a. loops.Going (pureRule (c .args .duty .now)) (c .args .place) lev (c .args .below .now) (c .loop-at .at + c .group-len-n .result) ds (c .args .line .now) (c .args .draft .now) (c .step-rule .last .draft) a) (sym (w .left-is))
-      (loops.turn-met (pureRule (c .args .duty .now)) (c .args .place) lev (c .args .below .now) (c .loop-at .at) (c .group-len-n .result) ds (c .args .line .now) (c .args .draft .now) (c .loop-at .draft) (c .step-rule .last .draft) (c .loop-at .left) (loops.turn-read (pureRule (c .args .duty .now)) (c .args .place) (c .args .below .now) (c .loop-at .at) (c .group-len-n .result) (c .args .line .now) (c .args .draft .now) (c .loop-at .draft) (c .step-rule .last .draft) (c .loop-at .left) Satisfied (c .loop-at .inv .1) (c .loop-at-test .taken) (c .group-len-n .ensures .within) (c .group-len-n .ensures .ends) (w .in-Satisfied .ensures tt) lev ds e)))
-    | step-duties-in-Open w ↦ (omega (arith, c .group-len-n .ensures .within, ap length (take-rest (c .args .below .now) (c .loop-at .at)), length-drop (c .loop-at .at) (c .args .below .now), c .loop-at .inv .0),
-      λ lev ds e. subst (λ a. loops.Going (pureRule (c .args .duty .now)) (c .args .place) lev (c .args .below .now) (c .loop-at .at + c .group-len-n .result) ds (c .args .line .now) (c .args .draft .now) (c .step-rule .last .draft) a) (sym (w .left-is))
-      (loops.turn-open (pureRule (c .args .duty .now)) (c .args .place) lev (c .args .below .now) (c .loop-at .at) (c .group-len-n .result) ds (c .args .line .now) (c .args .draft .now) (c .loop-at .draft) (c .step-rule .last .draft) (c .loop-at .left) (loops.turn-read (pureRule (c .args .duty .now)) (c .args .place) (c .args .below .now) (c .loop-at .at) (c .group-len-n .result) (c .args .line .now) (c .args .draft .now) (c .loop-at .draft) (c .step-rule .last .draft) (c .loop-at .left) StillOpen (c .loop-at .inv .1) (c .loop-at-test .taken) (c .group-len-n .ensures .within) (c .group-len-n .ensures .ends) (w .in-Open .ensures tt) lev ds e))) ]
+    elim (c .match-step-rule .came) [
+      | step-duties-in-Satisfied w ↦ (
+        omega (arith, c .group-len-n .ensures .within, ap length (take-rest (c .args .below .now) (c .loop-at .at)), length-drop (c .loop-at .at) (c .args .below .now), c .loop-at .inv .0),
+        λ lev ds e. subst (λ a. loops.Going (pureRule (c .args .duty .now)) (c .args .place) lev (c .args .below .now) (c .loop-at .at + c .group-len-n .result) ds (c .args .line .now) (c .args .draft .now) (c .step-rule .last .draft) a) (sym (w .left-is))
+            (loops.turn-met (pureRule (c .args .duty .now)) (c .args .place) lev (c .args .below .now) (c .loop-at .at) (c .group-len-n .result) ds (c .args .line .now) (c .args .draft .now) (c .loop-at .draft) (c .step-rule .last .draft) (c .loop-at .left) (loops.turn-read (pureRule (c .args .duty .now)) (c .args .place) (c .args .below .now) (c .loop-at .at) (c .group-len-n .result) (c .args .line .now) (c .args .draft .now) (c .loop-at .draft) (c .step-rule .last .draft) (c .loop-at .left) Satisfied (c .loop-at .inv .1) (c .loop-at-test .taken) (c .group-len-n .ensures .within) (c .group-len-n .ensures .ends) (w .in-Satisfied .ensures tt) lev ds e)),
+      )
+      | step-duties-in-Open w ↦ (
+        omega (arith, c .group-len-n .ensures .within, ap length (take-rest (c .args .below .now) (c .loop-at .at)), length-drop (c .loop-at .at) (c .args .below .now), c .loop-at .inv .0),
+        λ lev ds e. subst (λ a. loops.Going (pureRule (c .args .duty .now)) (c .args .place) lev (c .args .below .now) (c .loop-at .at + c .group-len-n .result) ds (c .args .line .now) (c .args .draft .now) (c .step-rule .last .draft) a) (sym (w .left-is))
+            (loops.turn-open (pureRule (c .args .duty .now)) (c .args .place) lev (c .args .below .now) (c .loop-at .at) (c .group-len-n .result) ds (c .args .line .now) (c .args .draft .now) (c .loop-at .draft) (c .step-rule .last .draft) (c .loop-at .left) (loops.turn-read (pureRule (c .args .duty .now)) (c .args .place) (c .args .below .now) (c .loop-at .at) (c .group-len-n .result) (c .args .line .now) (c .args .draft .now) (c .loop-at .draft) (c .step-rule .last .draft) (c .loop-at .left) StillOpen (c .loop-at .inv .1) (c .loop-at-test .taken) (c .group-len-n .ensures .within) (c .group-len-n .ensures .ends) (w .in-Open .ensures tt) lev ds e)),
+      )
+    ]
 
 pub step-duties-returns : need.step-duties-returns
 step-duties-returns t c =
@@ -190,9 +195,9 @@ step-else-returns-in-Breached t c lev o e =
     let L = c .args .place .level in
     let g = c .args .group .now in
     let l = c .args .line .now in
-    else-breached r s n L (c .below .result) (c .inside-substitute .result) g l (c .args .draft .now) (c .write .last .self) (c .step-rule-2 .last .draft) (c .cut-in-Breached .last .self) (c .open-rule .last .draft) _ o (c .write .ensures)
+    else-breached r s n L (c .below .result) (c .inside-substitute-in-Breached .result) g l (c .args .draft .now) (c .write .last .self) (c .step-rule-2 .last .draft) (c .cut-in-Breached .last .self) (c .open-rule .last .draft) _ o (c .write .ensures)
     (else-first r s n L (c .below .result) g _ l (c .write .last .self) (c .step-rule-2 .last .draft) _ (c .if-group-place .left) (take-rest g 1) (c .below .ensures .node) (c .in-Breached .ensures tt) lev o e) (c .cut-in-Breached .ensures)
-    (c .inside-substitute .ensures .node ∙ ap (λ x. n + (1 + x)) (c .count-nodes .ensures)) (c .inside-substitute .ensures .level) (c .open-rule .ensures)
+    (c .inside-substitute-in-Breached .ensures .node ∙ ap (λ x. n + (1 + x)) (c .count-nodes-in-Breached .ensures)) (c .inside-substitute-in-Breached .ensures .level) (c .open-rule .ensures)
 
 pub step-else-returns-in-Open : need.step-else-returns-in-Open
 step-else-returns-in-Open t c lev o e =

@@ -2,16 +2,16 @@ use Rattle.duty.specs.Sheet.{entry}
 use Rattle.duty.proofs.Written.{stored-items, stored-count, full-items, full-count}
 use Rattle.duty.proofs.drafts.Draft.write.Needs as need
 
-pub returns-then-self-lt256 : need.returns-then-self-lt256
-returns-then-self-lt256 c es h =
+pub returns-then-self-lt-PLACES : need.returns-then-self-lt-PLACES
+returns-then-self-lt-PLACES c es h =
     record {
-      items = stored-items es _ _ (entry (c .args .place .node) (c .args .place .level) (c .args .mark) (c .args .letters .now)) (c .args .self .now .count) (h .items) (h .count) (c .if-self-lt256 .taken) (c .push-reserved .ensures .items);
-      count = stored-count es (entry (c .args .place .node) (c .args .place .level) (c .args .mark) (c .args .letters .now)) (c .args .self .now .count) (h .count) (c .if-self-lt256 .taken);
+      items = stored-items es _ _ (entry (c .args .place .node) (c .args .place .level) (c .args .mark) (c .args .letters .now)) (c .args .self .now .count) (h .items) (h .count) (c .if-self-lt-PLACES .taken) (c .push-reserved .ensures .items);
+      count = stored-count es (entry (c .args .place .node) (c .args .place .level) (c .args .mark) (c .args .letters .now)) (c .args .self .now .count) (h .count) (c .if-self-lt-PLACES .taken);
     }
 
-pub returns-else-self-lt256 : need.returns-else-self-lt256
-returns-else-self-lt256 c es h =
+pub returns-else-self-lt-PLACES : need.returns-else-self-lt-PLACES
+returns-else-self-lt-PLACES c es h =
     record {
-      items = full-items es _ (entry (c .args .place .node) (c .args .place .level) (c .args .mark) (c .args .letters .now)) (c .args .self .now .count) (h .items) (h .count) (c .if-self-lt256 .left);
-      count = full-count es (entry (c .args .place .node) (c .args .place .level) (c .args .mark) (c .args .letters .now)) (c .args .self .now .count) (h .count) (c .if-self-lt256 .left);
+      items = full-items es _ (entry (c .args .place .node) (c .args .place .level) (c .args .mark) (c .args .letters .now)) (c .args .self .now .count) (h .items) (h .count) (c .if-self-lt-PLACES .left);
+      count = full-count es (entry (c .args .place .node) (c .args .place .level) (c .args .mark) (c .args .letters .now)) (c .args .self .now .count) (h .count) (c .if-self-lt-PLACES .left);
     }

@@ -17,8 +17,8 @@ use Rattle.duty.proofs.standings.Standing.open.Needs as need
 pub returns : need.returns
 returns c =
     let rs = bookRules (c .args .book) in
-    let empty = c .in-Continue-judged .ensures tt .made .0 in
-    let j = subst (λ x. JudgedRules (pureRules x) [] (vec-items (c .in-Continue-judged .judged)) (vec-items (c .open-rules .last .verdicts)) (c .in-Continue-sheet .sheet) (c .open-rules .last .draft)) (c .rules .ensures .items) (c .open-rules .ensures .all) in
+    let empty = c .in-Continue-verdicts .ensures tt .made .0 in
+    let j = subst (λ x. JudgedRules (pureRules x) [] (vec-items (c .in-Continue-verdicts .verdicts)) (vec-items (c .open-rules .last .verdicts)) (c .in-Continue-sheet .sheet) (c .open-rules .last .draft)) (c .rules .ensures .items) (c .open-rules .ensures .all) in
     let w = j .written [] (c .in-Continue-sheet .ensures tt) in
     let size : allNodes rs ≤ 64 = subst (λ x. allNodes (pureRules x) ≤ 64) (c .rules .ensures .items) (c .rules .ensures .within .size) in
     let fits : length (bookSheet rs []) ≤ 256 = omega (arith, sheet-facts .fits rs size) in
