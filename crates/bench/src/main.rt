@@ -1,5 +1,6 @@
 // How long a line takes: `bench time` prints nanoseconds per line and per open entry, for books of 1, 4 and 16
-// rules with an almost empty and an almost full sheet. Run with no argument it prints the sizes alone.
+// rules with an almost empty and an almost full sheet, and microseconds to read a large book. Run with no
+// argument it prints the sizes alone.
 use book::whole::read_book;
 use duty::standings::Standing;
 use feed::lines::Line;
@@ -82,12 +83,44 @@ fn measure(rt: &LibcRuntime, rules: u32, timed: bool) -> Result<(), AnyError> {
     Ok(())
 }
 
+// A text of 8,192 bytes with 16 rules of four nodes each.
+fn large_text(rt: &LibcRuntime) -> Result<String, AnyError> {
+    let mut text = String::new(rt.alloc());
+    for _ in 0..16u32 {
+        text.push_str("each [kind 1, run A] until [kind 9] then (must [kind 3, run A] before ")?;
+        text.push_str("[time B if B >= 2 * A + 240] else mustnot [kind 4] before never);\n")?;
+        for _ in 0..376u32 {
+            text.push(' ')?;
+        }
+    }
+    Ok(text)
+}
+
+// How long reading that book takes, or how large it is.
+fn reading(rt: &LibcRuntime, timed: bool) -> Result<(), AnyError> {
+    let text = large_text(rt)?;
+    let len = text.len();
+    println!(rt, "a book of {len} bytes")?;
+    if !timed {
+        return Ok(());
+    }
+    let start = Instant::now(rt)?;
+    for _ in 0..1_000u32 {
+        if read_book(rt.alloc(), text.as_bytes()).is_err() {
+            return Err("the book was refused".into());
+        }
+    }
+    let micros = start.elapsed(rt)?.as_micros() / 1_000;
+    println!(rt, "    {micros} microseconds to read it")?;
+    Ok(())
+}
+
 fn run(rt: &LibcRuntime) -> Result<(), AnyError> {
     let timed = env::args(rt)?.skip(1).count() > 0;
     for rules in [1u32, 4, 16] {
         measure(rt, rules, timed)?;
     }
-    Ok(())
+    reading(rt, timed)
 }
 
 fn main(rt: LibcRuntime) -> Result<(), AnyError> {

@@ -65,9 +65,9 @@ det-closer false false M N k = step (λ _. (refl, k refl))
 pub binders-code : (bs bs′ : List Binder) (c c′ : Bool) (v w : List Terminal) → tokensOf (bindersClosed (bs, c)) ++ v ≡ tokensOf (bindersClosed (bs′, c′)) ++ w → (bs ≡ bs′) × (c ≡ c′) × (v ≡ w)
 binders-code bs bs′ c c′ v w e =
     let r = code (List Binder × Bool) bindersClosed (bs, c) (bs′, c′) v w
-          (λ M N k. both-sides (binderItems bs) (mark (closer c) ∷ []) M (binderItems bs′) (mark (closer c′) ∷ []) N
-            (det-binders bs bs′ (mark (closer c) ∷ M) (mark (closer c′) ∷ N) (not-comma c M) (not-comma c′ N) (λ f. not-named c f M) (λ f. not-named c′ f N)
-              (λ eb. det-closer c c′ M N (λ ec. k (λ i. (eb i, ec i)))))) e in
+    (λ M N k. both-sides (binderItems bs) (mark (closer c) ∷ []) M (binderItems bs′) (mark (closer c′) ∷ []) N
+    (det-binders bs bs′ (mark (closer c) ∷ M) (mark (closer c′) ∷ N) (not-comma c M) (not-comma c′ N) (λ f. not-named c f M) (λ f. not-named c′ f N)
+    (λ eb. det-closer c c′ M N (λ ec. k (λ i. (eb i, ec i)))))) e in
     (ap (λ x. x .0) (r .0), ap (λ x. x .1) (r .0), r .1)
 
 pub pattern-code : (s : Letters) (p q : Pattern) (v w : List Terminal) → tokensOf (patternItems s p) ++ v ≡ tokensOf (patternItems s q) ++ w → (p ≡ q) × (v ≡ w)

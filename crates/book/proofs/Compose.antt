@@ -42,11 +42,11 @@ start from to e = record { before = []; split = e; read = refl; sound = tt }
 
 pub then : (from mid to : List Lexeme) (is js : List Item) → Reads from is mid → Reads mid js to → Reads from (is ++ js) to
 then from mid to is js r s = record {
-    before = r .before ++ s .before;
-    split = r .split ∙ ap (λ l. r .before ++ l) (s .split) ∙ sym (append-assoc (r .before) (s .before) to);
-    read = gots-++ (r .before) (s .before) ∙ (λ i. r .read i ++ s .read i) ∙ sym (meant-++ is js);
-    sound = sound-++ is js (r .sound) (s .sound);
-  }
+  before = r .before ++ s .before;
+  split = r .split ∙ ap (λ l. r .before ++ l) (s .split) ∙ sym (append-assoc (r .before) (s .before) to);
+  read = gots-++ (r .before) (s .before) ∙ (λ i. r .read i ++ s .read i) ∙ sym (meant-++ is js);
+  sound = sound-++ is js (r .sound) (s .sound);
+}
 
 -- the same items, written otherwise
 pub alike : (from to : List Lexeme) (is js : List Item) → is ≡ js → Reads from is to → Reads from js to
@@ -79,19 +79,19 @@ pub within : (X Y : Type 0) (P : X → List Item) (S : X → Terminal → Type 0
     → ((y : Y) (u v : List Terminal) → Fits U y u → tokensOf (Q y) ++ u ≡ tokensOf a ++ v → (x : X) × (w : List Terminal) × (Fits S x w) × (v ≡ tokensOf (P x) ++ w))
     → (from mid : List Lexeme) (r : Reason) (p : ℕ) → Reads from a mid → Fails X P S mid r p → Fails Y Q U from r p
 within X Y P S Q U a whole z eq inv from mid r p d f = record {
-    before = d .before ++ f .before;
-    here = f .here;
-    after = f .after;
-    split = d .split ∙ ap (λ l. d .before ++ l) (f .split) ∙ sym (append-assoc (d .before) (f .before) (f .here ∷ f .after));
-    place = f .place;
-    pre = a ++ f .pre;
-    read = gots-++ (d .before) (f .before) ∙ (λ i. d .read i ++ f .read i) ∙ sym (meant-++ a (f .pre));
-    sound = sound-++ a (f .pre) (d .sound) (f .sound);
-    tree = whole (f .tree);
-    rest = f .rest ++ z (f .tree);
-    begins = eq (f .tree) ∙ ap (λ l. a ++ (l ++ z (f .tree))) (f .begins) ∙ ap (λ l. a ++ l) (append-assoc (f .pre) (f .rest) (z (f .tree))) ∙ sym (append-assoc a (f .pre) (f .rest ++ z (f .tree)));
-    fault = lift (f .here .got) r (f .fault);
-  }
+  before = d .before ++ f .before;
+  here = f .here;
+  after = f .after;
+  split = d .split ∙ ap (λ l. d .before ++ l) (f .split) ∙ sym (append-assoc (d .before) (f .before) (f .here ∷ f .after));
+  place = f .place;
+  pre = a ++ f .pre;
+  read = gots-++ (d .before) (f .before) ∙ (λ i. d .read i ++ f .read i) ∙ sym (meant-++ a (f .pre));
+  sound = sound-++ a (f .pre) (d .sound) (f .sound);
+  tree = whole (f .tree);
+  rest = f .rest ++ z (f .tree);
+  begins = eq (f .tree) ∙ ap (λ l. a ++ (l ++ z (f .tree))) (f .begins) ∙ ap (λ l. a ++ l) (append-assoc (f .pre) (f .rest) (z (f .tree))) ∙ sym (append-assoc a (f .pre) (f .rest ++ z (f .tree)));
+  fault = lift (f .here .got) r (f .fault);
+}
   where
     lift : (g : Got) (m : Reason) → FaultIn X P S (f .pre) g m → FaultIn Y Q U (a ++ f .pre) g m
     lift g m unread = unread
@@ -115,26 +115,56 @@ part-of T X U Y f h P Q a whole z eq inv from mid to to′ r NoMemory told = tt
 pub no-token : (Y : Type 0) (Q : Y → List Item) (U : Y → Terminal → Type 0) (a : List Item) (y : Y) (rest : List Item) → Q y ≡ a ++ rest
     → (from mid after : List Lexeme) (e : Fault) → Reads from a mid → mid ≡ lexeme (e .place) (bad (e .reason)) ∷ after → Fails Y Q U from (e .reason) (e .place)
 no-token Y Q U a y rest eq from mid after e r m = record {
-    before = r .before; here = lexeme (e .place) (bad (e .reason)); after = after; split = r .split ∙ ap (λ l. r .before ++ l) m; place = refl; pre = a; read = r .read; sound = r .sound;
-    tree = y; rest = rest; begins = eq; fault = unread;
-  }
+  before = r .before;
+  here = lexeme (e .place) (bad (e .reason));
+  after = after;
+  split = r .split ∙ ap (λ l. r .before ++ l) m;
+  place = refl;
+  pre = a;
+  read = r .read;
+  sound = r .sound;
+  tree = y;
+  rest = rest;
+  begins = eq;
+  fault = unread;
+}
 
 -- After the items a, the token is not allowed.
 pub wrong : (Y : Type 0) (Q : Y → List Item) (U : Y → Terminal → Type 0) (a : List Item) (y : Y) (rest : List Item) → Q y ≡ a ++ rest
     → (from mid after : List Lexeme) (s : Seen) → Reads from a mid → mid ≡ seenAs s ∷ after
     → ((x : Y) (u more : List Terminal) → Fits U x u → tokensOf (Q x) ++ u ≡ tokensOf a ++ s .terminal ∷ more → ⊥) → Fails Y Q U from NotAllowed (s .place)
 wrong Y Q U a y rest eq from mid after s r m none = record {
-    before = r .before; here = seenAs s; after = after; split = r .split ∙ ap (λ l. r .before ++ l) m; place = refl; pre = a; read = r .read; sound = r .sound;
-    tree = y; rest = rest; begins = eq; fault = strange none;
-  }
+  before = r .before;
+  here = seenAs s;
+  after = after;
+  split = r .split ∙ ap (λ l. r .before ++ l) m;
+  place = refl;
+  pre = a;
+  read = r .read;
+  sound = r .sound;
+  tree = y;
+  rest = rest;
+  begins = eq;
+  fault = strange none;
+}
 
 -- After the items a, the token of i is allowed, and is at fault.
 pub faulty : (Y : Type 0) (Q : Y → List Item) (U : Y → Terminal → Type 0) (a : List Item) (y : Y) (i : Item) (rest : List Item) → Q y ≡ a ++ i ∷ rest
     → (from mid after : List Lexeme) (s : Seen) (n : Reason) → Reads from a mid → mid ≡ seenAs s ∷ after → s .terminal ≡ i .token → fault i ≡ Some n → Fails Y Q U from n (s .place)
 faulty Y Q U a y i rest eq from mid after s n r m t is = record {
-    before = r .before; here = seenAs s; after = after; split = r .split ∙ ap (λ l. r .before ++ l) m; place = refl; pre = a; read = r .read; sound = r .sound;
-    tree = y; rest = i ∷ rest; begins = eq; fault = subst (λ x. FaultIn Y Q U a (good x) n) (sym t) (past y i rest eq is);
-  }
+  before = r .before;
+  here = seenAs s;
+  after = after;
+  split = r .split ∙ ap (λ l. r .before ++ l) m;
+  place = refl;
+  pre = a;
+  read = r .read;
+  sound = r .sound;
+  tree = y;
+  rest = i ∷ rest;
+  begins = eq;
+  fault = subst (λ x. FaultIn Y Q U a (good x) n) (sym t) (past y i rest eq is);
+}
 
 -- the tokens of two stretches with one token between
 pub flat : (a : List Item) (x : Item) (b : List Item) (u : List Terminal) → tokensOf (a ++ (x ∷ b)) ++ u ≡ tokensOf a ++ x .token ∷ (tokensOf b ++ u)
@@ -163,9 +193,19 @@ faulty-first Y Q U y i rest eq from after s n m t is = faulty Y Q U [] y i rest 
 -- a fault where the tree might have been followed by anything
 pub weaken : (X : Type 0) (P : X → List Item) (S : X → Terminal → Type 0) (from : List Lexeme) (r : Reason) (p : ℕ) → Fails X P (any X) from r p → Fails X P S from r p
 weaken X P S from r p f = record {
-    before = f .before; here = f .here; after = f .after; split = f .split; place = f .place; pre = f .pre; read = f .read; sound = f .sound;
-    tree = f .tree; rest = f .rest; begins = f .begins; fault = lift (f .here .got) r (f .fault);
-  }
+  before = f .before;
+  here = f .here;
+  after = f .after;
+  split = f .split;
+  place = f .place;
+  pre = f .pre;
+  read = f .read;
+  sound = f .sound;
+  tree = f .tree;
+  rest = f .rest;
+  begins = f .begins;
+  fault = lift (f .here .got) r (f .fault);
+}
   where
     lift : (g : Got) (m : Reason) → FaultIn X P (any X) (f .pre) g m → FaultIn X P S (f .pre) g m
     lift g m unread = unread

@@ -68,18 +68,25 @@ det-more [] [] fs fs′ ls ls′ M N ef el hM hN k = k refl
 det-more [] (b ∷ bs) fs fs′ ls ls′ M N ef el hM hN k = det-apart′ (mark Comma) M _ hM
 det-more (b ∷ bs) [] fs fs′ ls ls′ M N ef el hM hN k = det-apart (mark Comma) _ N hN
 det-more (b ∷ bs) (b′ ∷ bs′) fs fs′ ls ls′ M N ef el hM hN k =
-    step (λ _. (refl, step (λ t. let f : b .field ≡ b′ .field = cc in
-      (cc, det-operand (b .operand) (b′ .operand) ls ls′ _ _ el (λ v. det-more bs bs′ (withField fs (b .field)) (withField fs′ (b′ .field)) (withOperand ls (b .operand)) (withOperand ls′ (b′ .operand)) M N
-        (λ i. withField (ef i) (f i)) (λ i. withOperand (el i) (v i)) hM hN (λ e. let eb : b ≡ b′ = (λ i. record { field = f i; operand = v i }) in k (cc)))))))
+    step (λ _. (
+      refl,
+      step (λ t. let f : b .field ≡ b′ .field = cc in (
+        cc,
+        det-operand (b .operand) (b′ .operand) ls ls′ _ _ el (λ v. det-more bs bs′ (withField fs (b .field)) (withField fs′ (b′ .field)) (withOperand ls (b .operand)) (withOperand ls′ (b′ .operand)) M N
+            (λ i. withField (ef i) (f i)) (λ i. withOperand (el i) (v i)) hM hN (λ e. let eb : b ≡ b′ = (λ i. record { field = f i; operand = v i }) in k (cc))),
+      )),
+    ))
 
 pub det-binders : {Q : Type 0} (bs bs′ : List Binder) (M N : List Item) → HeadNot Comma M → HeadNot Comma N → ((f : Field) → HeadNot (Named f) M) → ((f : Field) → HeadNot (Named f) N) → (bs ≡ bs′ → Det Q M N) → Det Q (binderItems bs ++ M) (binderItems bs′ ++ N)
 det-binders [] [] M N hM hN fM fN k = k refl
 det-binders [] (b ∷ bs) M N hM hN fM fN k = det-apart′ _ M _ (fM (b .field))
 det-binders (b ∷ bs) [] M N hM hN fM fN k = det-apart _ _ N (fN (b .field))
 det-binders (b ∷ bs) (b′ ∷ bs′) M N hM hN fM fN k =
-    step (λ t. let f : b .field ≡ b′ .field = cc in
-      (cc, det-operand (b .operand) (b′ .operand) noLetters noLetters _ _ refl (λ v. det-more bs bs′ (withField noFields (b .field)) (withField noFields (b′ .field)) (withOperand noLetters (b .operand)) (withOperand noLetters (b′ .operand)) M N
-        (ap (withField noFields) f) (ap (withOperand noLetters) v) hM hN (λ e. let eb : b ≡ b′ = (λ i. record { field = f i; operand = v i }) in k (cc)))))
+    step (λ t. let f : b .field ≡ b′ .field = cc in (
+      cc,
+      det-operand (b .operand) (b′ .operand) noLetters noLetters _ _ refl (λ v. det-more bs bs′ (withField noFields (b .field)) (withField noFields (b′ .field)) (withOperand noLetters (b .operand)) (withOperand noLetters (b′ .operand)) M N
+          (ap (withField noFields) f) (ap (withOperand noLetters) v) hM hN (λ e. let eb : b ≡ b′ = (λ i. record { field = f i; operand = v i }) in k (cc))),
+    ))
 
 -- Conditions.
 det-part : {Q : Type 0} (p p′ : Part) (k k′ : ℕ) (s s′ : Letters) (M N : List Item) → k ≡ k′ → s ≡ s′ → HeadNot Times M → HeadNot Times N → (p ≡ p′ → Det Q M N) → Det Q (partItems k s p ++ M) (partItems k′ s′ p′ ++ N)
@@ -128,9 +135,9 @@ det-condition : {Q : Type 0} (c c′ : Condition) (k k′ : ℕ) (s s′ : Lette
 det-condition c c′ k k′ s s′ M N ek es fM fN h =
     both-sides (sumItems k s (c .left)) (mark (Compare (c .sign)) ∷ sumItems k s (c .right)) M (sumItems k′ s′ (c′ .left)) (mark (Compare (c′ .sign)) ∷ sumItems k′ s′ (c′ .right)) N
     (det-sum (c .left) (c′ .left) k k′ s s′ _ _ ek es
-      (free (Compare (c .sign)) _ (λ e. let z : _≡_ {A = ℕ} 0 1 = cc in omega arith) (λ e. let z : _≡_ {A = ℕ} 0 1 = cc in omega arith))
-      (free (Compare (c′ .sign)) _ (λ e. let z : _≡_ {A = ℕ} 0 1 = cc in omega arith) (λ e. let z : _≡_ {A = ℕ} 0 1 = cc in omega arith))
-      (λ l. step (λ t. let g : c .sign ≡ c′ .sign = cc in (cc, det-sum (c .right) (c′ .right) k k′ s s′ M N ek es fM fN (λ r. h (λ i. record { left = l i; sign = g i; right = r i }))))))
+    (free (Compare (c .sign)) _ (λ e. let z : _≡_ {A = ℕ} 0 1 = cc in omega arith) (λ e. let z : _≡_ {A = ℕ} 0 1 = cc in omega arith))
+    (free (Compare (c′ .sign)) _ (λ e. let z : _≡_ {A = ℕ} 0 1 = cc in omega arith) (λ e. let z : _≡_ {A = ℕ} 0 1 = cc in omega arith))
+    (λ l. step (λ t. let g : c .sign ≡ c′ .sign = cc in (cc, det-sum (c .right) (c′ .right) k k′ s s′ M N ek es fM fN (λ r. h (λ i. record { left = l i; sign = g i; right = r i }))))))
 
 det-conditions : {Q : Type 0} (c c′ : Condition) (cs cs′ : List Condition) (k k′ : ℕ) (s s′ : Letters) (M N : List Item) → k ≡ k′ → s ≡ s′ → (c ≡ c′ → cs ≡ cs′ → Det Q M N) → Det Q (conditionsItems k s c cs ++ M) (conditionsItems k′ s′ c′ cs′ ++ N)
 det-conditions c c′ [] [] k k′ s s′ M N ek es h =
@@ -145,7 +152,7 @@ det-conditions c c′ (d ∷ ds) [] k k′ s s′ M N ek es h =
 det-conditions c c′ (d ∷ ds) (d′ ∷ ds′) k k′ s s′ M N ek es h =
     both-sides (conditionItems k s c) (mark Comma ∷ conditionsItems (k + 1) s d ds) M (conditionItems k′ s′ c′) (mark Comma ∷ conditionsItems (k′ + 1) s′ d′ ds′) N
     (det-condition c c′ k k′ s s′ _ _ ek es (free Comma _ (λ e. let z : _≡_ {A = ℕ} 0 1 = cc in omega arith) (λ e. let z : _≡_ {A = ℕ} 0 1 = cc in omega arith)) (free Comma _ (λ e. let z : _≡_ {A = ℕ} 0 1 = cc in omega arith) (λ e. let z : _≡_ {A = ℕ} 0 1 = cc in omega arith))
-      (λ e. step (λ _. (refl, det-conditions d d′ ds ds′ (k + 1) (k′ + 1) s s′ M N (ap (λ n. n + 1) ek) es (λ f g. h e (cc))))))
+    (λ e. step (λ _. (refl, det-conditions d d′ ds ds′ (k + 1) (k′ + 1) s s′ M N (ap (λ n. n + 1) ek) es (λ f g. h e (cc))))))
 
 det-if : {Q : Type 0} (cs cs′ : List Condition) (s s′ : Letters) (M N : List Item) → s ≡ s′ → (cs ≡ cs′ → Det Q M N) → Det Q (ifItems s cs ++ M) (ifItems s′ cs′ ++ N)
 det-if [] [] s s′ M N es h = step (λ _. (refl, h refl))
@@ -163,11 +170,14 @@ det-pattern never never s s′ M N es k = step (λ _. (refl, k refl))
 det-pattern never (lines bs cs) s s′ M N es k = step (λ t. let z : _≡_ {A = ℕ} 0 1 = cc in absurd (omega arith))
 det-pattern (lines bs cs) never s s′ M N es k = step (λ t. let z : _≡_ {A = ℕ} 0 1 = cc in absurd (omega arith))
 det-pattern (lines bs cs) (lines bs′ cs′) s s′ M N es k =
-    step (λ _. (refl, both-sides (binderItems bs) (ifItems (withBinders s bs) cs) M (binderItems bs′) (ifItems (withBinders s′ bs′) cs′) N
-      (det-binders bs bs′ _ _
-        (after-binders cs _ M Comma (λ e. let z : _≡_ {A = ℕ} 0 1 = cc in omega arith) (λ e. let z : _≡_ {A = ℕ} 0 1 = cc in omega arith)) (after-binders cs′ _ N Comma (λ e. let z : _≡_ {A = ℕ} 0 1 = cc in omega arith) (λ e. let z : _≡_ {A = ℕ} 0 1 = cc in omega arith))
-        (λ f. after-binders cs _ M (Named f) (λ e. let z : _≡_ {A = ℕ} 0 1 = cc in omega arith) (λ e. let z : _≡_ {A = ℕ} 0 1 = cc in omega arith)) (λ f. after-binders cs′ _ N (Named f) (λ e. let z : _≡_ {A = ℕ} 0 1 = cc in omega arith) (λ e. let z : _≡_ {A = ℕ} 0 1 = cc in omega arith))
-        (λ eb. det-if cs cs′ (withBinders s bs) (withBinders s′ bs′) M N (λ i. withBinders (es i) (eb i)) (λ ec. k (cc))))))
+    step (λ _. (
+      refl,
+      both-sides (binderItems bs) (ifItems (withBinders s bs) cs) M (binderItems bs′) (ifItems (withBinders s′ bs′) cs′) N
+          (det-binders bs bs′ _ _
+          (after-binders cs _ M Comma (λ e. let z : _≡_ {A = ℕ} 0 1 = cc in omega arith) (λ e. let z : _≡_ {A = ℕ} 0 1 = cc in omega arith)) (after-binders cs′ _ N Comma (λ e. let z : _≡_ {A = ℕ} 0 1 = cc in omega arith) (λ e. let z : _≡_ {A = ℕ} 0 1 = cc in omega arith))
+          (λ f. after-binders cs _ M (Named f) (λ e. let z : _≡_ {A = ℕ} 0 1 = cc in omega arith) (λ e. let z : _≡_ {A = ℕ} 0 1 = cc in omega arith)) (λ f. after-binders cs′ _ N (Named f) (λ e. let z : _≡_ {A = ℕ} 0 1 = cc in omega arith) (λ e. let z : _≡_ {A = ℕ} 0 1 = cc in omega arith))
+          (λ eb. det-if cs cs′ (withBinders s bs) (withBinders s′ bs′) M N (λ i. withBinders (es i) (eb i)) (λ ec. k (cc)))),
+    ))
 
 -- Rules.
 joined : {Q : Type 0} (a : List Item) (x : Item) (b M a′ : List Item) (x′ : Item) (b′ N : List Item) → Det Q (a ++ (x ∷ (b ++ M))) (a′ ++ (x′ ∷ (b′ ++ N))) → Det Q ((a ++ (x ∷ b)) ++ M) ((a′ ++ (x′ ∷ b′)) ++ N)
@@ -178,8 +188,11 @@ twice a x b y c M a′ x′ b′ y′ c′ N d = simp append-assoc d
 
 pub det-rule : {Q : Type 0} (r r′ : Rule) (s s′ : Spot) (M N : List Item) → s ≡ s′ → (r ≡ r′ → Det Q M N) → Det Q (ruleItems s r ++ M) (ruleItems s′ r′ ++ N)
 det-rule (duty k p q) (duty k′ p′ q′) s s′ M N es h =
-    step (λ t. let ek : k ≡ k′ = cc in (cc, joined (patternItems (s .bound) p) (mark Before) (patternItems (s .bound) q) M (patternItems (s′ .bound) p′) (mark Before) (patternItems (s′ .bound) q′) N
-      (det-pattern p p′ (s .bound) (s′ .bound) _ _ (cc) (λ ep. step (λ _. (refl, det-pattern q q′ (s .bound) (s′ .bound) M N (cc) (λ eq. h (cc))))))))
+    step (λ t. let ek : k ≡ k′ = cc in (
+      cc,
+      joined (patternItems (s .bound) p) (mark Before) (patternItems (s .bound) q) M (patternItems (s′ .bound) p′) (mark Before) (patternItems (s′ .bound) q′) N
+          (det-pattern p p′ (s .bound) (s′ .bound) _ _ (cc) (λ ep. step (λ _. (refl, det-pattern q q′ (s .bound) (s′ .bound) M N (cc) (λ eq. h (cc)))))),
+    ))
 det-rule (duty k p q) (trigger k′ p′ q′ r′) s s′ M N es h = step (λ t. let z : _≡_ {A = ℕ} 0 1 = cc in absurd (omega arith))
 det-rule (duty k p q) (bracket k′ r′ t′) s s′ M N es h = step (λ t. let z : _≡_ {A = ℕ} 0 1 = cc in absurd (omega arith))
 det-rule (trigger k p q r) (duty k′ p′ q′) s s′ M N es h = step (λ t. let z : _≡_ {A = ℕ} 0 1 = cc in absurd (omega arith))
@@ -187,15 +200,26 @@ det-rule (trigger k p q r) (bracket k′ r′ t′) s s′ M N es h = step (λ t
 det-rule (bracket k r t) (duty k′ p′ q′) s s′ M N es h = step (λ t. let z : _≡_ {A = ℕ} 0 1 = cc in absurd (omega arith))
 det-rule (bracket k r t) (trigger k′ p′ q′ r′) s s′ M N es h = step (λ t. let z : _≡_ {A = ℕ} 0 1 = cc in absurd (omega arith))
 det-rule (trigger k p q r) (trigger k′ p′ q′ r′) s s′ M N es h =
-    step (λ t. let ek : k ≡ k′ = cc in (cc, twice (patternItems (s .bound) p) (mark Until) (patternItems (s .bound) q) (mark Then) (ruleItems (deeper s (withPattern (s .bound) p)) r) M
-      (patternItems (s′ .bound) p′) (mark Until) (patternItems (s′ .bound) q′) (mark Then) (ruleItems (deeper s′ (withPattern (s′ .bound) p′)) r′) N
-      (det-pattern p p′ (s .bound) (s′ .bound) _ _ (cc) (λ ep. step (λ _. (refl, det-pattern q q′ (s .bound) (s′ .bound) _ _ (cc) (λ eq.
-        step (λ _. (refl, det-rule r r′ (deeper s (withPattern (s .bound) p)) (deeper s′ (withPattern (s′ .bound) p′)) M N (λ i. deeper (es i) (withPattern (es i .bound) (ep i))) (λ er. h (cc)))))))))))
+    step (λ t. let ek : k ≡ k′ = cc in (
+      cc,
+      twice (patternItems (s .bound) p) (mark Until) (patternItems (s .bound) q) (mark Then) (ruleItems (deeper s (withPattern (s .bound) p)) r) M
+          (patternItems (s′ .bound) p′) (mark Until) (patternItems (s′ .bound) q′) (mark Then) (ruleItems (deeper s′ (withPattern (s′ .bound) p′)) r′) N
+          (det-pattern p p′ (s .bound) (s′ .bound) _ _ (cc) (λ ep. step (λ _. (
+            refl,
+            det-pattern q q′ (s .bound) (s′ .bound) _ _ (cc) (λ eq.
+                step (λ _. (refl, det-rule r r′ (deeper s (withPattern (s .bound) p)) (deeper s′ (withPattern (s′ .bound) p′)) M N (λ i. deeper (es i) (withPattern (es i .bound) (ep i))) (λ er. h (cc))))),
+          )))),
+    ))
 det-rule (bracket k r t) (bracket k′ r′ t′) s s′ M N es h =
-    step (λ _. (cc, twice (ruleItems (deeper s (s .bound)) r) (mark (Joint k)) (ruleItems (later (deeper s (s .bound)) (size r)) t) (mark Close) [] M
-      (ruleItems (deeper s′ (s′ .bound)) r′) (mark (Joint k′)) (ruleItems (later (deeper s′ (s′ .bound)) (size r′)) t′) (mark Close) [] N
-      (det-rule r r′ (deeper s (s .bound)) (deeper s′ (s′ .bound)) _ _ (λ i. deeper (es i) (es i .bound)) (λ er. step (λ u. let ek : k ≡ k′ = cc in (cc,
-        det-rule t t′ (later (deeper s (s .bound)) (size r)) (later (deeper s′ (s′ .bound)) (size r′)) _ _ (λ i. later (deeper (es i) (es i .bound)) (size (er i))) (λ et. step (λ _. (refl, h (cc))))))))))
+    step (λ _. (
+      cc,
+      twice (ruleItems (deeper s (s .bound)) r) (mark (Joint k)) (ruleItems (later (deeper s (s .bound)) (size r)) t) (mark Close) [] M
+          (ruleItems (deeper s′ (s′ .bound)) r′) (mark (Joint k′)) (ruleItems (later (deeper s′ (s′ .bound)) (size r′)) t′) (mark Close) [] N
+          (det-rule r r′ (deeper s (s .bound)) (deeper s′ (s′ .bound)) _ _ (λ i. deeper (es i) (es i .bound)) (λ er. step (λ u. let ek : k ≡ k′ = cc in (
+            cc,
+            det-rule t t′ (later (deeper s (s .bound)) (size r)) (later (deeper s′ (s′ .bound)) (size r′)) _ _ (λ i. later (deeper (es i) (es i .bound)) (size (er i))) (λ et. step (λ _. (refl, h (cc)))),
+          )))),
+    ))
 
 -- a rule does not begin with the end
 no-end : (r : Rule) (s : Spot) (M : List Item) → HeadNot End (ruleItems s r ++ M)
@@ -208,5 +232,7 @@ det-book [] [] k k′ n n′ ek en q = step (λ _. (refl, done (q refl)))
 det-book [] (r ∷ b) k k′ n n′ ek en q = det-apart (mark End) [] _ (no-end r (top (k′ + 1) n′) _)
 det-book (r ∷ b) [] k k′ n n′ ek en q = det-apart′ (mark End) _ [] (no-end r (top (k + 1) n) _)
 det-book (r ∷ b) (r′ ∷ b′) k k′ n n′ ek en q =
-    det-rule r r′ (top (k + 1) n) (top (k′ + 1) n′) _ _ (λ i. top (ek i + 1) (en i)) (λ er. step (λ _. (refl,
-      det-book b b′ (k + 1) (k′ + 1) (n + size r) (n′ + size r′) (λ i. ek i + 1) (λ i. en i + size (er i)) (λ eb. q (cc)))))
+    det-rule r r′ (top (k + 1) n) (top (k′ + 1) n′) _ _ (λ i. top (ek i + 1) (en i)) (λ er. step (λ _. (
+      refl,
+      det-book b b′ (k + 1) (k′ + 1) (n + size r) (n′ + size r′) (λ i. ek i + 1) (λ i. en i + size (er i)) (λ eb. q (cc)),
+    )))

@@ -164,11 +164,24 @@ module _ (t : List ℕ) (fits : length t ≤ 8192) (no-book : (b : List Rule) �
     where
       refuse : (r : Reason) → FaultAt pre (l .got) r → ⊥
       refuse r f = no-fault r (l .place) (first fits (record {
-          before = before; here = l; after = after; split = split; place = refl; pre = pre; read = read; sound = sound; book = b; rest = rest; begins = begins; fault = f;
-        }))
+        before = before;
+        here = l;
+        after = after;
+        split = split;
+        place = refl;
+        pre = pre;
+        read = read;
+        sound = sound;
+        book = b;
+        rest = rest;
+        begins = begins;
+        fault = f;
+      }))
+
       judge : (c : List Rule) (i : Item) (m : List Item) → items c ≡ pre ++ i ∷ m → l .got ≡ good (i .token) → (o : Option Reason) → fault i ≡ o → ⊥
       judge c i m e g (Some r) q = refuse r (subst (λ x. FaultAt pre x r) (sym g) (past c i m e q))
       judge c i m e g None q = on c i m e g q
+
       at : (g : Got) → l .got ≡ g → ⊥
       at (bad r) e = refuse r (subst (λ x. FaultAt pre x r) (sym e) unread)
       at (good u) e = refuse NotAllowed (subst (λ x. FaultAt pre x NotAllowed) (sym e) (strange (λ c ts q. let s = goes-same pre b c rest u ts begins q in judge c (s .0) (s .1) (s .2) (e ∙ ap good (sym (s .3))) (fault (s .0)) refl)))
@@ -176,21 +189,21 @@ module _ (t : List ℕ) (fits : length t ≤ 8192) (no-book : (b : List Rule) �
   walk : {left : List Lexeme} → EndsWell left → (before : List Lexeme) → lexemes t ≡ before ++ left → (pre : List Item) → gots before ≡ meant pre → AllSound pre → (b : List Rule) (rest : List Item) → items b ≡ pre ++ rest → ⊥
   walk (last {l} e) before split pre read sound b rest begins =
       step before l [] split pre read sound b rest begins (λ c i m q g f.
-        let none = end-last c 0 0 pre i m (let h : i .token ≡ End = cc in h) q in
-        let whole : items c ≡ pre ++ i ∷ [] = q ∙ ap (λ x. pre ++ i ∷ x) none in
-        no-book c (record {
-          short = fits;
-          written = ap gots split ∙ gots-++ before (l ∷ []) ∙ (λ j. read j ++ g j ∷ []) ∙ sym (meant-++ pre (i ∷ [])) ∙ ap meant (sym whole);
-          sound = subst AllSound (sym whole) (sound-++ pre (i ∷ []) sound (f, tt));
-        }))
+      let none = end-last c 0 0 pre i m (let h : i .token ≡ End = cc in h) q in
+      let whole : items c ≡ pre ++ i ∷ [] = q ∙ ap (λ x. pre ++ i ∷ x) none in
+      no-book c (record {
+        short = fits;
+        written = ap gots split ∙ gots-++ before (l ∷ []) ∙ (λ j. read j ++ g j ∷ []) ∙ sym (meant-++ pre (i ∷ [])) ∙ ap meant (sym whole);
+        sound = subst AllSound (sym whole) (sound-++ pre (i ∷ []) sound (f, tt));
+      }))
   walk (more {l} {ls} ne ends) before split pre read sound b rest begins =
       step before l ls split pre read sound b rest begins (λ c i m q g f.
-        walk ends (before ++ l ∷ []) (split ∙ sym (append-assoc before (l ∷ []) ls)) (pre ++ i ∷ [])
-          (gots-++ before (l ∷ []) ∙ (λ j. read j ++ g j ∷ []) ∙ sym (meant-++ pre (i ∷ []))) (sound-++ pre (i ∷ []) sound (f, tt)) c m (q ∙ sym (append-assoc pre (i ∷ []) m)))
+      walk ends (before ++ l ∷ []) (split ∙ sym (append-assoc before (l ∷ []) ls)) (pre ++ i ∷ [])
+      (gots-++ before (l ∷ []) ∙ (λ j. read j ++ g j ∷ []) ∙ sym (meant-++ pre (i ∷ []))) (sound-++ pre (i ∷ []) sound (f, tt)) c m (q ∙ sym (append-assoc pre (i ∷ []) m)))
 
 pub whole : Whole
 whole t no-book no-fault =
     elim (cases-lt 8192 (length t)) [
-      inl h ↦ no-fault TooLong 0 (long h)
-    | inr h ↦ walk t h no-book no-fault (ends-well t 0 0) [] refl [] refl tt [] (items []) refl
+      | inl h ↦ no-fault TooLong 0 (long h)
+      | inr h ↦ walk t h no-book no-fault (ends-well t 0 0) [] refl [] refl tt [] (items []) refl
     ]

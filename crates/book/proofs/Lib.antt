@@ -1,4 +1,3 @@
-pub mod Bounds
 pub mod Compose
 pub mod Det
 pub mod Once
@@ -10,3 +9,5 @@ pub mod Squares
 pub mod Nested
 pub mod Texts
 pub mod Either
+pub mod Bounds
+pub mod Counting

@@ -169,10 +169,13 @@ inv-rest k s a c (d ∷ ds) u v e =
 -- one condition more, and then what the rest gave
 pub more-conditions : (k : ℕ) (s : Letters) (a : Condition) (from mid to : List Lexeme) (xs ys zs : List Condition) → Reads from (conditionItems k s a ++ (mark Comma ∷ [])) mid → ys ≡ xs ++ (a ∷ [])
     → (r : Result (Unit {0}) Refusal) → ToldConditions (k + 1) s mid r to ys zs → ToldConditions k s from r to xs zs
-more-conditions k s a from mid to xs ys zs d e (Ok u) h =
-    (a, h .0 ∷ h .1, h .2 ∙ ap (λ l. l ++ (h .0 ∷ h .1)) e ∙ append-assoc xs (a ∷ []) (h .0 ∷ h .1),
-     alike from to ((conditionItems k s a ++ (mark Comma ∷ [])) ++ conditionsItems (k + 1) s (h .0) (h .1)) (conditionItems k s a ++ (mark Comma ∷ conditionsItems (k + 1) s (h .0) (h .1)))
-       (append-assoc (conditionItems k s a) (mark Comma ∷ []) (conditionsItems (k + 1) s (h .0) (h .1))) (then from mid to (conditionItems k s a ++ (mark Comma ∷ [])) (conditionsItems (k + 1) s (h .0) (h .1)) d (h .3)))
+more-conditions k s a from mid to xs ys zs d e (Ok u) h = (
+  a,
+  h .0 ∷ h .1,
+  h .2 ∙ ap (λ l. l ++ (h .0 ∷ h .1)) e ∙ append-assoc xs (a ∷ []) (h .0 ∷ h .1),
+  alike from to ((conditionItems k s a ++ (mark Comma ∷ [])) ++ conditionsItems (k + 1) s (h .0) (h .1)) (conditionItems k s a ++ (mark Comma ∷ conditionsItems (k + 1) s (h .0) (h .1)))
+      (append-assoc (conditionItems k s a) (mark Comma ∷ []) (conditionsItems (k + 1) s (h .0) (h .1))) (then from mid to (conditionItems k s a ++ (mark Comma ∷ [])) (conditionsItems (k + 1) s (h .0) (h .1)) d (h .3)),
+)
 more-conditions k s a from mid to xs ys zs d e (Err (Faulty x)) h =
     within (Condition × List Condition) (Condition × List Condition) (conditionsClosed (k + 1) s) (any (Condition × List Condition)) (conditionsClosed k s) (any (Condition × List Condition)) (conditionItems k s a ++ (mark Comma ∷ []))
     (λ y. (a, y .0 ∷ y .1)) (λ _. [])

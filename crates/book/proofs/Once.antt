@@ -74,9 +74,9 @@ place-order (z ∷ a) b [] d x y e = inr (inr (a, (let h : z ≡ y = cc in cc)))
 place-order (z ∷ a) b (w ∷ c) d x y e =
     let h : z ≡ w = cc in
     elim (place-order a b c d x y (cc)) [
-      inl q ↦ inl ((let r = q .0 in cc), q .1)
-    | inr (inl q) ↦ inr (inl (q .0, (let r = q .1 in cc)))
-    | inr (inr q) ↦ inr (inr (q .0, (let r = q .1 in cc)))
+      | inl q ↦ inl ((let r = q .0 in cc), q .1)
+      | inr (inl q) ↦ inr (inl (q .0, (let r = q .1 in cc)))
+      | inr (inr q) ↦ inr (inr (q .0, (let r = q .1 in cc)))
     ]
 
 pub apart : Apart
@@ -128,8 +128,10 @@ one-fault text n p m q (long a) (first s f) = absurd (omega arith)
 one-fault text n p m q (first s f) (long a) = absurd (omega arith)
 one-fault text n p m q (first s f) (first s′ g) =
     elim (place-order (f .before) (f .after) (g .before) (g .after) (f .here) (g .here) (sym (f .split) ∙ g .split)) [
-      inl e ↦ (same-number (f .pre) (g .pre) (f .here .got) (g .here .got) n m (sym (f .read) ∙ ap gots (e .0) ∙ g .read) (ap (λ l. l .got) (e .1)) (f .fault) (g .fault),
-               sym (f .place) ∙ ap (λ l. l .place) (e .1) ∙ g .place)
-    | inr (inl e) ↦ absurd (earlier text n p m q f g (e .0) (e .1))
-    | inr (inr e) ↦ absurd (earlier text m q n p g f (e .0) (e .1))
+      | inl e ↦ (
+        same-number (f .pre) (g .pre) (f .here .got) (g .here .got) n m (sym (f .read) ∙ ap gots (e .0) ∙ g .read) (ap (λ l. l .got) (e .1)) (f .fault) (g .fault),
+        sym (f .place) ∙ ap (λ l. l .place) (e .1) ∙ g .place,
+      )
+      | inr (inl e) ↦ absurd (earlier text n p m q f g (e .0) (e .1))
+      | inr (inr e) ↦ absurd (earlier text m q n p g f (e .0) (e .1))
     ]

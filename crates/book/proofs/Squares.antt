@@ -95,4 +95,4 @@ pub lines-if-read : (s : Letters) (bs zs : List Binder) (inner : Letters) (c : C
 lines-if-read s bs zs inner c cs ds from mid to e q f r h =
     alike from to (mark OpenSquare ∷ (binderItems bs ++ ifItems (withBinders s bs) (c ∷ cs))) _ (λ i. mark OpenSquare ∷ (binderItems (sym e i) ++ ifItems (withBinders s (sym e i)) (sym f i)))
     (alike from to ((mark OpenSquare ∷ bindersClosed (bs, true)) ++ conditionsItems 1 (withBinders s bs) c cs) _ (ap (λ l. mark OpenSquare ∷ l) (append-assoc (binderItems bs) (mark If ∷ []) (conditionsItems 1 (withBinders s bs) c cs)))
-      (then from mid to (mark OpenSquare ∷ bindersClosed (bs, true)) (conditionsItems 1 (withBinders s bs) c cs) r (subst (λ l. Reads mid (conditionsItems 1 l c cs) to) q h)))
+    (then from mid to (mark OpenSquare ∷ bindersClosed (bs, true)) (conditionsItems 1 (withBinders s bs) c cs) r (subst (λ l. Reads mid (conditionsItems 1 l c cs) to) q h)))

@@ -142,13 +142,13 @@ inv-left k s y u v f e = (y .left, _, compare-ends (y .left) (y .sign) (tokensOf
 pub inv-sign : (k : ℕ) (s : Letters) (a : Sum) (t : Terminal) → SumStops a t → ((g : Sign) → t ≡ Compare g → ⊥) → (y : Condition) (u more : List Terminal) → tokensOf (conditionItems k s y) ++ u ≡ tokensOf (sumItems k s a) ++ t ∷ more → ⊥
 inv-sign k s a t h no-sign y u more e =
     let c = sum-code k s (y .left) a (Compare (y .sign) ∷ (tokensOf (sumItems k s (y .right)) ++ u)) (t ∷ more) (compare-ends (y .left) (y .sign) _) (stops SumStops a t more h)
-          (sym (flat (sumItems k s (y .left)) (mark (Compare (y .sign))) (sumItems k s (y .right)) u) ∙ e) .1 in
+    (sym (flat (sumItems k s (y .left)) (mark (Compare (y .sign))) (sumItems k s (y .right)) u) ∙ e) .1 in
     no-sign (y .sign) (cc)
 
 pub inv-right : (k : ℕ) (s : Letters) (a : Sum) (g : Sign) (y : Condition) (u v : List Terminal) → Fits ConditionStops y u → tokensOf (conditionItems k s y) ++ u ≡ tokensOf (sumItems k s a) ++ Compare g ∷ v → (x : Sum) × (w : List Terminal) × (Fits SumStops x w) × (v ≡ tokensOf (sumItems k s x) ++ w)
 inv-right k s a g y u v f e =
     let c = sum-code k s (y .left) a (Compare (y .sign) ∷ (tokensOf (sumItems k s (y .right)) ++ u)) (Compare g ∷ v) (compare-ends (y .left) (y .sign) _) (compare-ends a g v)
-          (sym (flat (sumItems k s (y .left)) (mark (Compare (y .sign))) (sumItems k s (y .right)) u) ∙ e) .1 in
+    (sym (flat (sumItems k s (y .left)) (mark (Compare (y .sign))) (sumItems k s (y .right)) u) ∙ e) .1 in
     let h : tokensOf (sumItems k s (y .right)) ++ u ≡ v = cc in
     (y .right, u, f, sym h)
 
@@ -157,7 +157,7 @@ condition-code k s x y u w f g e =
     let X = sumItems k s (x .right) in
     let Y = sumItems k s (y .right) in
     let c = sum-code k s (x .left) (y .left) (Compare (x .sign) ∷ (tokensOf X ++ u)) (Compare (y .sign) ∷ (tokensOf Y ++ w)) (compare-ends (x .left) (x .sign) _) (compare-ends (y .left) (y .sign) _)
-          (sym (flat (sumItems k s (x .left)) (mark (Compare (x .sign))) X u) ∙ e ∙ flat (sumItems k s (y .left)) (mark (Compare (y .sign))) Y w) in
+    (sym (flat (sumItems k s (x .left)) (mark (Compare (x .sign))) X u) ∙ e ∙ flat (sumItems k s (y .left)) (mark (Compare (y .sign))) Y w) in
     let h = c .1 in
     let sg : x .sign ≡ y .sign = cc in
     let t : tokensOf X ++ u ≡ tokensOf Y ++ w = cc in

@@ -109,9 +109,11 @@ goes-on xs x rest e h = record { head = lexeme (x .place) (meaning (x .stretch))
 
 pub at-end : (xs : List Placed) (x : Placed) (rest : List Placed) (k n : ℕ) → xs ≡ x ∷ rest → x .stretch ≡ end → rest ≡ [] → Reads (meanings xs) (bookItems k n []) []
 at-end xs x rest k n e h f = record {
-    before = meanings xs; split = sym (append-nil (meanings xs));
-    read = ap gots (ap meanings (e ∙ ap (λ r. x ∷ r) f)) ∙ ap (λ s. meaning s ∷ []) h; sound = (refl, tt);
-  }
+  before = meanings xs;
+  split = sym (append-nil (meanings xs));
+  read = ap gots (ap meanings (e ∙ ap (λ r. x ∷ r) f)) ∙ ap (λ s. meaning s ∷ []) h;
+  sound = (refl, tt);
+}
 
 -- A rule that failed in a book that goes on.
 first-not-end : (before : List Lexeme) (here : Lexeme) (after from : List Lexeme) (pre : List Item) (t : Terminal) → GoesOn from → from ≡ before ++ here ∷ after → gots before ≡ meant pre → here .got ≡ good t → (u more : List Terminal) → End ∷ u ≡ tokensOf pre ++ t ∷ more → ⊥
@@ -122,14 +124,23 @@ first-not-end (b ∷ before) here after from (i ∷ pre) t g s r h u more e = le
 
 rule-fails : (k n : ℕ) (from : List Lexeme) (r : Reason) (p : ℕ) → GoesOn from → Fails Rule (ruleItems (top (k + 1) n)) (any Rule) from r p → Fails (List Rule) (bookItems k n) (any (List Rule)) from r p
 rule-fails k n from r p g f = record {
-    before = f .before; here = f .here; after = f .after; split = f .split; place = f .place; pre = f .pre; read = f .read; sound = f .sound;
-    tree = f .tree ∷ []; rest = f .rest ++ ends (f .tree);
-    begins = ap (λ l. l ++ ends (f .tree)) (f .begins) ∙ append-assoc (f .pre) (f .rest) (ends (f .tree));
-    fault = lift (f .here .got) r refl (f .fault);
-  }
+  before = f .before;
+  here = f .here;
+  after = f .after;
+  split = f .split;
+  place = f .place;
+  pre = f .pre;
+  read = f .read;
+  sound = f .sound;
+  tree = f .tree ∷ [];
+  rest = f .rest ++ ends (f .tree);
+  begins = ap (λ l. l ++ ends (f .tree)) (f .begins) ∙ append-assoc (f .pre) (f .rest) (ends (f .tree));
+  fault = lift (f .here .got) r refl (f .fault);
+}
   where
     ends : Rule → List Item
     ends x = mark Semicolon ∷ bookItems (k + 1) (n + size x) []
+
     lift : (h : Got) (m : Reason) → f .here .got ≡ h → FaultIn Rule (ruleItems (top (k + 1) n)) (any Rule) (f .pre) h m → FaultIn (List Rule) (bookItems k n) (any (List Rule)) (f .pre) h m
     lift h m q unread = unread
     lift h m q (strange {t} no-rule) = strange (book t q no-rule)
@@ -181,9 +192,11 @@ pub more-rules : (k n m : ℕ) (a : held.Rule) (from mid : List Lexeme) (xs ys z
     → (r : Result (Unit {0}) Refusal) → ToldRules (k + 1) m mid r ys zs → ToldRules k n from r xs zs
 more-rules k n m a from mid xs ys zs q d e (Ok u) h =
     let A = ruleItems (top (k + 1) n) (pureRule a) in
-    let R = bookItems (k + 1) (n + size (pureRule a)) (h .0) in
-    (pureRule a ∷ h .0, h .1 ∙ ap (λ l. pureRules l ++ h .0) e ∙ ap (λ l. l ++ h .0) (pure-++ xs (a ∷ [])) ∙ append-assoc (pureRules xs) (pureRule a ∷ []) (h .0),
-     alike from [] ((A ++ (mark Semicolon ∷ [])) ++ R) (A ++ (mark Semicolon ∷ R)) (append-assoc A (mark Semicolon ∷ []) R) (then from mid [] (A ++ (mark Semicolon ∷ [])) R d (subst (λ z. Reads mid (bookItems (k + 1) z (h .0)) []) q (h .2))))
+    let R = bookItems (k + 1) (n + size (pureRule a)) (h .0) in (
+      pureRule a ∷ h .0,
+      h .1 ∙ ap (λ l. pureRules l ++ h .0) e ∙ ap (λ l. l ++ h .0) (pure-++ xs (a ∷ [])) ∙ append-assoc (pureRules xs) (pureRule a ∷ []) (h .0),
+      alike from [] ((A ++ (mark Semicolon ∷ [])) ++ R) (A ++ (mark Semicolon ∷ R)) (append-assoc A (mark Semicolon ∷ []) R) (then from mid [] (A ++ (mark Semicolon ∷ [])) R d (subst (λ z. Reads mid (bookItems (k + 1) z (h .0)) []) q (h .2))),
+    )
 more-rules k n m a from mid xs ys zs q d e (Err (Faulty x)) h =
     let A = ruleItems (top (k + 1) n) (pureRule a) in
     inside (List Rule) (List Rule) (bookItems (k + 1) (n + size (pureRule a))) (bookItems k n) (A ++ (mark Semicolon ∷ [])) (λ y. pureRule a ∷ y) (λ _. [])
@@ -215,9 +228,19 @@ fault-of pre g r (past b i more e is) = faults.past b i more e is
 
 refused : (t : List ℕ) (r : Reason) (p : ℕ) → length t ≤ 8192 → Fails (List Rule) items (any (List Rule)) (lexemes t) r p → Refused t r p
 refused t r p s f = first s (record {
-    before = f .before; here = f .here; after = f .after; split = f .split; place = f .place; pre = f .pre; read = f .read; sound = f .sound;
-    book = f .tree; rest = f .rest; begins = f .begins; fault = fault-of (f .pre) (f .here .got) r (f .fault);
-  })
+  before = f .before;
+  here = f .here;
+  after = f .after;
+  split = f .split;
+  place = f .place;
+  pre = f .pre;
+  read = f .read;
+  sound = f .sound;
+  book = f .tree;
+  rest = f .rest;
+  begins = f .begins;
+  fault = fault-of (f .pre) (f .here .got) r (f .fault);
+})
 
 pub failed : (t : List ℕ) (xs ys : List held.Rule) → length t ≤ 8192 → (e : Refusal) → ToldRules 0 0 (lexemes t) (Err e) xs ys → Told t (Err e)
 failed t xs ys s (Faulty e) h = refused t (e .reason) (e .place) s h

@@ -14,4 +14,5 @@ pub mod Trees
 pub mod Patterns
 pub mod Nodes
 pub mod Kept
+pub mod Numbers
 pub mod Whole

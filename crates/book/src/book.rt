@@ -4,8 +4,8 @@ ghost use mathlib.Core.List.{[]};
 ghost use lib.ListN.{length};
 ghost use Rattle.std.specs.Of.Vec.{vec-items, vec-len};
 ghost use Rattle.book.specs.Kept.{Kept, Written};
-ghost use Rattle.book.specs.Sizes.{WithinLimits};
 ghost use Rattle.book.specs.Trees.{pureRules};
+ghost use Rattle.book.specs.Sizes.{WithinLimits};
 use crate::rules::Rule;
 use std::alloc::Global;
 
@@ -21,7 +21,8 @@ impl Book {
     pub fn empty(heap: Global) -> Book
         ensures { λ r. ⌜ vec-items (r .rules) ≡ [] ⌝ }
     {
-        Book { rules: Vec::new(heap) }
+        let rules = Vec::new(heap);
+        Book { rules }
     }
 
     // The book of these rules.

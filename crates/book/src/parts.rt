@@ -23,7 +23,11 @@ const CONDITIONS: usize = 4;
 fn number_fault(k: usize) -> Option<Reason>
     ensures { λ r. ⌜ r ≡ roleFault (counts k) ⌝ }
 {
-    if k > CONDITIONS { Some(Reason::PastLimit) } else { None }
+    if k > CONDITIONS {
+        Some(Reason::PastLimit)
+    } else {
+        None
+    }
 }
 
 // The fault of a letter in the k-th condition, where `bound` are bound.
@@ -33,7 +37,11 @@ fn letter_fault(k: usize, bound: Letters, letter: Letter) -> Option<Reason>
     if k > CONDITIONS {
         return Some(Reason::PastLimit);
     }
-    if bound.has(letter) { None } else { Some(Reason::Unbound) }
+    if bound.has(letter) {
+        None
+    } else {
+        Some(Reason::Unbound)
+    }
 }
 
 // A letter in the k-th condition.
@@ -42,10 +50,16 @@ fn read_letter(cur: &mut Cursor<'_>, k: usize, bound: Letters) -> Result<Letter,
 {
     let seen = next(cur)?;
     let Terminal::Lettered(letter) = seen.terminal else {
-        return Err(Fault { reason: Reason::NotAllowed, place: seen.place });
+        return Err(Fault {
+            reason: Reason::NotAllowed,
+            place: seen.place,
+        });
     };
     match letter_fault(k, bound, letter) {
-        Some(reason) => Err(Fault { reason, place: seen.place }),
+        Some(reason) => Err(Fault {
+            reason,
+            place: seen.place,
+        }),
         None => Ok(letter),
     }
 }
@@ -57,14 +71,23 @@ fn read_lead(cur: &mut Cursor<'_>, k: usize, bound: Letters) -> Result<Part, Fau
     let seen = next(cur)?;
     match seen.terminal {
         Terminal::Numeral(number) => match number_fault(k) {
-            Some(reason) => Err(Fault { reason, place: seen.place }),
+            Some(reason) => Err(Fault {
+                reason,
+                place: seen.place,
+            }),
             None => Ok(Part::Number(number)),
         },
         Terminal::Lettered(letter) => match letter_fault(k, bound, letter) {
-            Some(reason) => Err(Fault { reason, place: seen.place }),
+            Some(reason) => Err(Fault {
+                reason,
+                place: seen.place,
+            }),
             None => Ok(Part::Bound(letter)),
         },
-        _ => Err(Fault { reason: Reason::NotAllowed, place: seen.place }),
+        _ => Err(Fault {
+            reason: Reason::NotAllowed,
+            place: seen.place,
+        }),
     }
 }
 
@@ -102,12 +125,19 @@ fn read_sum(cur: &mut Cursor<'_>, k: usize, bound: Letters) -> Result<(Sum, Seen
 }
 
 // The k-th condition, and the token after it.
-pub fn read_condition(cur: &mut Cursor<'_>, k: usize, bound: Letters) -> Result<(Condition, Seen), Fault>
+pub(crate) fn read_condition(
+    cur: &mut Cursor<'_>,
+    k: usize,
+    bound: Letters,
+) -> Result<(Condition, Seen), Fault>
     ensures { λ r. ⌜ ToldNext Condition (conditionItems k bound) ConditionStops (coming (now (cur .entry))) r (coming (now (cur .exit))) ⌝ }
 {
     let (left, compare) = read_sum(cur, k, bound)?;
     let Terminal::Compare(sign) = compare.terminal else {
-        return Err(Fault { reason: Reason::NotAllowed, place: compare.place });
+        return Err(Fault {
+            reason: Reason::NotAllowed,
+            place: compare.place,
+        });
     };
     let (right, after) = read_sum(cur, k, bound)?;
     Ok((Condition { left, sign, right }, after))

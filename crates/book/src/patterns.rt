@@ -31,14 +31,22 @@ use tokens::source::Cursor;
 fn field_fault(fields: Fields, field: Field) -> Option<Reason>
     ensures { λ r. ⌜ r ≡ roleFault (names fields field) ⌝ }
 {
-    if fields.has(field) { Some(Reason::Twice) } else { None }
+    if fields.has(field) {
+        Some(Reason::Twice)
+    } else {
+        None
+    }
 }
 
 // The fault of a letter that is bound after those of the same list.
 fn binding_fault(letters: Letters, letter: Letter) -> Option<Reason>
     ensures { λ r. ⌜ r ≡ roleFault (binds letters letter) ⌝ }
 {
-    if letters.has(letter) { Some(Reason::Twice) } else { None }
+    if letters.has(letter) {
+        Some(Reason::Twice)
+    } else {
+        None
+    }
 }
 
 // A field, which may not be one of `fields`.
@@ -47,10 +55,16 @@ fn read_field(cur: &mut Cursor<'_>, fields: Fields) -> Result<Field, Fault>
 {
     let seen = next(cur)?;
     let Terminal::Named(field) = seen.terminal else {
-        return Err(Fault { reason: Reason::NotAllowed, place: seen.place });
+        return Err(Fault {
+            reason: Reason::NotAllowed,
+            place: seen.place,
+        });
     };
     match field_fault(fields, field) {
-        Some(reason) => Err(Fault { reason, place: seen.place }),
+        Some(reason) => Err(Fault {
+            reason,
+            place: seen.place,
+        }),
         None => Ok(field),
     }
 }
@@ -63,15 +77,26 @@ fn read_operand(cur: &mut Cursor<'_>, letters: Letters) -> Result<Operand, Fault
     match seen.terminal {
         Terminal::Numeral(number) => Ok(Operand::Number(number)),
         Terminal::Lettered(letter) => match binding_fault(letters, letter) {
-            Some(reason) => Err(Fault { reason, place: seen.place }),
+            Some(reason) => Err(Fault {
+                reason,
+                place: seen.place,
+            }),
             None => Ok(Operand::Bound(letter)),
         },
-        _ => Err(Fault { reason: Reason::NotAllowed, place: seen.place }),
+        _ => Err(Fault {
+            reason: Reason::NotAllowed,
+            place: seen.place,
+        }),
     }
 }
 
 // The binders after `fields` and `letters`, each behind a comma, up to the `if` or the `]`; answers whether it was the `if`.
-fn read_more_binders(cur: &mut Cursor<'_>, fields: Fields, letters: Letters, out: &mut Vec<Binder>) -> Result<bool, Refusal>
+fn read_more_binders(
+    cur: &mut Cursor<'_>,
+    fields: Fields,
+    letters: Letters,
+    out: &mut Vec<Binder>,
+) -> Result<bool, Refusal>
     ensures { λ r. ⌜ ToldBinders (moreClosed fields letters) (coming (now (cur .entry))) r (coming (now (cur .exit))) (vec-items (now (out .entry))) (vec-items (now (out .exit))) ⌝ }
 {
     let seen = next(cur)?;
@@ -84,7 +109,10 @@ fn read_more_binders(cur: &mut Cursor<'_>, fields: Fields, letters: Letters, out
             out.push(Binder { field, operand })?;
             read_more_binders(cur, fields.with(field), letters.with_operand(operand), out)
         }
-        _ => Err(Refusal::Faulty(Fault { reason: Reason::NotAllowed, place: seen.place })),
+        _ => Err(Refusal::Faulty(Fault {
+            reason: Reason::NotAllowed,
+            place: seen.place,
+        })),
     }
 }
 
@@ -99,14 +127,27 @@ fn read_binders(cur: &mut Cursor<'_>, out: &mut Vec<Binder>) -> Result<bool, Ref
         Terminal::Named(field) => {
             let operand = read_operand(cur, Letters::none())?;
             out.push(Binder { field, operand })?;
-            read_more_binders(cur, Fields::none().with(field), Letters::none().with_operand(operand), out)
+            read_more_binders(
+                cur,
+                Fields::none().with(field),
+                Letters::none().with_operand(operand),
+                out,
+            )
         }
-        _ => Err(Refusal::Faulty(Fault { reason: Reason::NotAllowed, place: seen.place })),
+        _ => Err(Refusal::Faulty(Fault {
+            reason: Reason::NotAllowed,
+            place: seen.place,
+        })),
     }
 }
 
 // The conditions from the k-th on, up to the `]`.
-fn read_conditions(cur: &mut Cursor<'_>, k: usize, bound: Letters, out: &mut Vec<Condition>) -> Result<(), Refusal>
+fn read_conditions(
+    cur: &mut Cursor<'_>,
+    k: usize,
+    bound: Letters,
+    out: &mut Vec<Condition>,
+) -> Result<(), Refusal>
     requires { ⌜ k ≤ 5 ⌝ }
     ensures { λ r. ⌜ ToldConditions k bound (coming (now (cur .entry))) r (coming (now (cur .exit))) (vec-items (now (out .entry))) (vec-items (now (out .exit))) ⌝ }
 {
@@ -115,12 +156,15 @@ fn read_conditions(cur: &mut Cursor<'_>, k: usize, bound: Letters, out: &mut Vec
     match after.terminal {
         Terminal::CloseSquare => Ok(()),
         Terminal::Comma => read_conditions(cur, k + 1, bound, out),
-        _ => Err(Refusal::Faulty(Fault { reason: Reason::NotAllowed, place: after.place })),
+        _ => Err(Refusal::Faulty(Fault {
+            reason: Reason::NotAllowed,
+            place: after.place,
+        })),
     }
 }
 
 // A pattern, where `bound` are bound from outside.
-pub fn read_pattern(heap: Global, cur: &mut Cursor<'_>, bound: Letters) -> Result<Pattern, Refusal>
+pub(crate) fn read_pattern(heap: Global, cur: &mut Cursor<'_>, bound: Letters) -> Result<Pattern, Refusal>
     ensures { λ r. ⌜ ToldBy Pattern PatternMeant purePattern (patternItems bound) (coming (now (cur .entry))) r (coming (now (cur .exit))) ⌝ }
 {
     let seen = next(cur)?;
@@ -134,8 +178,14 @@ pub fn read_pattern(heap: Global, cur: &mut Cursor<'_>, bound: Letters) -> Resul
                 let inner = bound.with_binders(&binders);
                 read_conditions(cur, 1, inner, &mut conditions)?;
             }
-            Ok(Pattern::Lines { binders, conditions })
+            Ok(Pattern::Lines {
+                binders,
+                conditions,
+            })
         }
-        _ => Err(Refusal::Faulty(Fault { reason: Reason::NotAllowed, place: seen.place })),
+        _ => Err(Refusal::Faulty(Fault {
+            reason: Reason::NotAllowed,
+            place: seen.place,
+        })),
     }
 }

@@ -32,7 +32,9 @@ use tokens::source::Cursor;
 
 // The most rules in a book, nodes in a book, and nodes inside one another.
 const RULES: usize = 16;
+
 const NODES: usize = 64;
+
 const DEPTH: usize = 8;
 
 // Whether a terminal is the one that is expected.
@@ -50,14 +52,17 @@ fn is_expected(terminal: Terminal, expected: Expected) -> bool
 }
 
 // The one terminal that may stand here.
-pub fn expect(cur: &mut Cursor<'_>, expected: Expected) -> Result<(), Fault>
+pub(crate) fn expect(cur: &mut Cursor<'_>, expected: Expected) -> Result<(), Fault>
     ensures { λ r. ⌜ Told (Unit {0}) (expectedItems expected) (coming (now (cur .entry))) r (coming (now (cur .exit))) ⌝ }
 {
     let seen = next(cur)?;
     if is_expected(seen.terminal, expected) {
         return Ok(());
     }
-    Err(Fault { reason: Reason::NotAllowed, place: seen.place })
+    Err(Fault {
+        reason: Reason::NotAllowed,
+        place: seen.place,
+    })
 }
 
 // `else` or `and`.
@@ -66,7 +71,10 @@ fn read_joint(cur: &mut Cursor<'_>) -> Result<BracketKind, Fault>
 {
     let seen = next(cur)?;
     let Terminal::Joint(kind) = seen.terminal else {
-        return Err(Fault { reason: Reason::NotAllowed, place: seen.place });
+        return Err(Fault {
+            reason: Reason::NotAllowed,
+            place: seen.place,
+        });
     };
     Ok(kind)
 }
@@ -94,26 +102,46 @@ fn node_fault(rule: usize, nodes: usize, around: usize) -> Option<Reason>
     if nodes >= NODES {
         return Some(Reason::PastLimit);
     }
-    if around >= DEPTH { Some(Reason::PastLimit) } else { None }
+    if around >= DEPTH {
+        Some(Reason::PastLimit)
+    } else {
+        None
+    }
 }
 
 // The first token of a rule.
-fn read_opening(cur: &mut Cursor<'_>, rule: usize, nodes: usize, around: usize) -> Result<Opening, Fault>
+fn read_opening(
+    cur: &mut Cursor<'_>,
+    rule: usize,
+    nodes: usize,
+    around: usize,
+) -> Result<Opening, Fault>
     ensures told { λ r. ⌜ Told Opening (openingItems rule nodes around) (coming (now (cur .entry))) r (coming (now (cur .exit))) ⌝ }
     ensures room { λ r. ⌜ made r (λ _. (rule ≤ 16) × (nodes < 64) × (around < 8)) ⌝ }
 {
     let seen = next(cur)?;
     let Some(opening) = opening_of(seen.terminal) else {
-        return Err(Fault { reason: Reason::NotAllowed, place: seen.place });
+        return Err(Fault {
+            reason: Reason::NotAllowed,
+            place: seen.place,
+        });
     };
     match node_fault(rule, nodes, around) {
-        Some(reason) => Err(Fault { reason, place: seen.place }),
+        Some(reason) => Err(Fault {
+            reason,
+            place: seen.place,
+        }),
         None => Ok(opening),
     }
 }
 
 // The rest of `must` or `mustnot`.
-fn read_duty(heap: Global, cur: &mut Cursor<'_>, bound: Letters, kind: DutyKind) -> Result<Rule, Refusal>
+fn read_duty(
+    heap: Global,
+    cur: &mut Cursor<'_>,
+    bound: Letters,
+    kind: DutyKind,
+) -> Result<Rule, Refusal>
     ensures told { λ r. ⌜ ((rule nodes around : ℕ) → Continued (spot rule nodes around bound) (Duty kind) (coming (now (cur .entry))) r (coming (now (cur .exit)))) ⌝ }
     ensures alone { λ r. ⌜ made r (λ x. size (pureRule x) ≡ 1) ⌝ }
 {
@@ -124,7 +152,14 @@ fn read_duty(heap: Global, cur: &mut Cursor<'_>, bound: Letters, kind: DutyKind)
 }
 
 // A rule, in the book's `rule`-th rule, with `around` nodes around it. `nodes` counts those begun so far.
-pub fn read_rule(heap: Global, cur: &mut Cursor<'_>, letters: &mut Letters, nodes: &mut usize, rule: usize, around: usize) -> Result<Rule, Refusal>
+pub(crate) fn read_rule(
+    heap: Global,
+    cur: &mut Cursor<'_>,
+    letters: &mut Letters,
+    nodes: &mut usize,
+    rule: usize,
+    around: usize,
+) -> Result<Rule, Refusal>
     requires few { ⌜ now nodes ≤ 64 ⌝ }
     requires shallow { ⌜ around ≤ 8 ⌝ }
     ensures told { λ r. ⌜ ToldBy Rule RuleMeant pureRule (ruleItems (spot rule (now (nodes .entry)) around (now (letters .entry)))) (coming (now (cur .entry))) r (coming (now (cur .exit))) ⌝ }
@@ -142,7 +177,14 @@ pub fn read_rule(heap: Global, cur: &mut Cursor<'_>, letters: &mut Letters, node
 }
 
 // The rest of a bracket.
-fn read_bracket(heap: Global, cur: &mut Cursor<'_>, letters: &mut Letters, nodes: &mut usize, rule: usize, around: usize) -> Result<Rule, Refusal>
+fn read_bracket(
+    heap: Global,
+    cur: &mut Cursor<'_>,
+    letters: &mut Letters,
+    nodes: &mut usize,
+    rule: usize,
+    around: usize,
+) -> Result<Rule, Refusal>
     requires few { ⌜ now nodes < 64 ⌝ }
     requires shallow { ⌜ around < 8 ⌝ }
     ensures told { λ r. ⌜ Continued (spot rule (now (nodes .entry)) around (now (letters .entry))) Open (coming (now (cur .entry))) r (coming (now (cur .exit))) ⌝ }
@@ -158,7 +200,15 @@ fn read_bracket(heap: Global, cur: &mut Cursor<'_>, letters: &mut Letters, nodes
 }
 
 // The rest of `each` or `once`.
-fn read_trigger(heap: Global, cur: &mut Cursor<'_>, letters: &mut Letters, nodes: &mut usize, rule: usize, around: usize, kind: TriggerKind) -> Result<Rule, Refusal>
+fn read_trigger(
+    heap: Global,
+    cur: &mut Cursor<'_>,
+    letters: &mut Letters,
+    nodes: &mut usize,
+    rule: usize,
+    around: usize,
+    kind: TriggerKind,
+) -> Result<Rule, Refusal>
     requires few { ⌜ now nodes < 64 ⌝ }
     requires shallow { ⌜ around < 8 ⌝ }
     ensures told { λ r. ⌜ Continued (spot rule (now (nodes .entry)) around (now (letters .entry))) (Trigger kind) (coming (now (cur .entry))) r (coming (now (cur .exit))) ⌝ }
@@ -186,12 +236,23 @@ impl Drop for Scope<'_> {
         ensures { λ _. ⌜ now (self .exit .0) ≡ self .entry .former ⌝ }
     {
         *self.letters = self.former;
-        let Scope { letters: _, former: _ } = self;
+        let Scope {
+            letters: _,
+            former: _,
+        } = self;
     }
 }
 
 // The duty of a trigger, where the letters `inner` are bound.
-fn read_scoped(heap: Global, cur: &mut Cursor<'_>, letters: &mut Letters, inner: Letters, nodes: &mut usize, rule: usize, around: usize) -> Result<Rule, Refusal>
+fn read_scoped(
+    heap: Global,
+    cur: &mut Cursor<'_>,
+    letters: &mut Letters,
+    inner: Letters,
+    nodes: &mut usize,
+    rule: usize,
+    around: usize,
+) -> Result<Rule, Refusal>
     requires few { ⌜ now nodes ≤ 64 ⌝ }
     requires shallow { ⌜ around ≤ 8 ⌝ }
     ensures told { λ r. ⌜ ToldBy Rule RuleMeant pureRule (ruleItems (spot rule (now (nodes .entry)) around inner)) (coming (now (cur .entry))) r (coming (now (cur .exit))) ⌝ }

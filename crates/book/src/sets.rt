@@ -16,20 +16,20 @@ pub struct Letters {
 }
 
 impl Letters {
-    pub fn none() -> Letters
+    pub(crate) fn none() -> Letters
         ensures { λ r. ⌜ r ≡ noLetters ⌝ }
     {
         Letters { held: [false; 8] }
     }
 
-    pub fn has(self, letter: Letter) -> bool
+    pub(crate) fn has(self, letter: Letter) -> bool
         ensures { λ r. ⌜ r ≡ has self letter ⌝ }
     {
         self.held[letter.index()]
     }
 
     // The set with one letter more.
-    pub fn with(self, letter: Letter) -> Letters
+    pub(crate) fn with(self, letter: Letter) -> Letters
         ensures { λ r. ⌜ r ≡ with self letter ⌝ }
     {
         let mut held = self.held;
@@ -38,7 +38,7 @@ impl Letters {
     }
 
     // The set with the letter that an operand binds.
-    pub fn with_operand(self, operand: Operand) -> Letters
+    pub(crate) fn with_operand(self, operand: Operand) -> Letters
         ensures { λ r. ⌜ r ≡ withOperand self operand ⌝ }
     {
         match operand {
@@ -48,7 +48,7 @@ impl Letters {
     }
 
     // The set with the letters that binders bind.
-    pub fn with_binders(self, binders: &[Binder]) -> Letters
+    pub(crate) fn with_binders(self, binders: &[Binder]) -> Letters
         ensures { λ r. ⌜ r ≡ withBinders self (now (binders .entry)) ⌝ }
     {
         let mut all = self;
@@ -59,12 +59,15 @@ impl Letters {
     }
 
     // The set with the letters that a pattern binds.
-    pub fn with_pattern(self, pattern: &Pattern) -> Letters
+    pub(crate) fn with_pattern(self, pattern: &Pattern) -> Letters
         ensures { λ r. ⌜ r ≡ withPattern self (purePattern (now (pattern .entry))) ⌝ }
     {
         match pattern {
             Pattern::Never => self,
-            Pattern::Lines { binders, conditions: _ } => self.with_binders(binders),
+            Pattern::Lines {
+                binders,
+                conditions: _,
+            } => self.with_binders(binders),
         }
     }
 }
@@ -91,20 +94,20 @@ pub struct Fields {
 }
 
 impl Fields {
-    pub fn none() -> Fields
+    pub(crate) fn none() -> Fields
         ensures { λ r. ⌜ r ≡ noFields ⌝ }
     {
         Fields { held: [false; 6] }
     }
 
-    pub fn has(self, field: Field) -> bool
+    pub(crate) fn has(self, field: Field) -> bool
         ensures { λ r. ⌜ r ≡ hasField self field ⌝ }
     {
         self.held[index_of(field)]
     }
 
     // The set with one field more.
-    pub fn with(self, field: Field) -> Fields
+    pub(crate) fn with(self, field: Field) -> Fields
         ensures { λ r. ⌜ r ≡ withField self field ⌝ }
     {
         let mut held = self.held;

@@ -23,7 +23,13 @@ use tokens::source::Cursor;
 const BYTES: usize = 8192;
 
 // The rules after the first `before`, each with its `;`, up to the end. `nodes` counts the nodes begun so far.
-fn read_rules(heap: Global, cur: &mut Cursor<'_>, nodes: &mut usize, before: usize, out: &mut Vec<Rule>) -> Result<(), Refusal>
+fn read_rules(
+    heap: Global,
+    cur: &mut Cursor<'_>,
+    nodes: &mut usize,
+    before: usize,
+    out: &mut Vec<Rule>,
+) -> Result<(), Refusal>
     requires few { ⌜ now nodes ≤ 64 ⌝ }
     requires room { ⌜ before ≤ 16 ⌝ }
     ensures { λ r. ⌜ ToldRules before (now (nodes .entry)) (coming (now (cur .entry))) r (vec-items (now (out .entry))) (vec-items (now (out .exit))) ⌝ }
@@ -43,7 +49,10 @@ pub fn read_book(heap: Global, text: &[u8]) -> Result<Book, Refusal>
     ensures { λ r. ⌜ Answered (now (text .entry)) r ⌝ }
 {
     if text.len() > BYTES {
-        return Err(Refusal::Faulty(Fault { reason: Reason::TooLong, place: 0 }));
+        return Err(Refusal::Faulty(Fault {
+            reason: Reason::TooLong,
+            place: 0,
+        }));
     }
     let mut cur = cursor::start(text);
     let mut nodes = 0;

@@ -193,7 +193,7 @@ fn terminal_of(token: Token<'_>) -> Result<Terminal, Reason>
 }
 
 // The next terminal; the end of the text stays ahead.
-pub fn next(cur: &mut Cursor<'_>) -> Result<Seen, Fault>
+pub(crate) fn next(cur: &mut Cursor<'_>) -> Result<Seen, Fault>
     ensures { λ r. ⌜ Next (coming (now (cur .entry))) r (coming (now (cur .exit))) ⌝ }
 {
     let found = cursor::next(cur);

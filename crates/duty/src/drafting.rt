@@ -15,7 +15,7 @@ use std::alloc::AllocError;
 use std::alloc::Global;
 
 impl Draft {
-    pub fn new(heap: Global) -> Result<Draft, AllocError>
+    pub(crate) fn new(heap: Global) -> Result<Draft, AllocError>
         ensures { λ r. ⌜ made r (λ d. Drafted d []) ⌝ }
     {
         let entries = Vec::with_capacity(heap, PLACES)?;
@@ -23,7 +23,7 @@ impl Draft {
     }
 
     // One more entry, of the rule at this place.
-    pub fn write(&mut self, place: Place, mark: bool, letters: &[Option<u32>; 8])
+    pub(crate) fn write(&mut self, place: Place, mark: bool, letters: &[Option<u32>; 8])
         ensures { λ _. ⌜ Adds (now (self .entry)) (now (self .exit)) (entry (place .node) (place .level) mark (now (letters .entry)) ∷ []) ⌝ }
     {
         if self.count < PLACES {
@@ -40,7 +40,7 @@ impl Draft {
     }
 
     // Back to an earlier count.
-    pub fn cut(&mut self, count: usize)
+    pub(crate) fn cut(&mut self, count: usize)
         ensures { λ _. ⌜ ((es more : List Entry) → Drafted (now (self .entry)) (es ++ more) → count ≡ min (length es) 257 → Drafted (now (self .exit)) es) ⌝ }
     {
         if count < self.count {
@@ -49,7 +49,7 @@ impl Draft {
         }
     }
 
-    pub fn clear(&mut self)
+    pub(crate) fn clear(&mut self)
         ensures { λ _. ⌜ Drafted (now (self .exit)) [] ⌝ }
     {
         self.entries.truncate(0);

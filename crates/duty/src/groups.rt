@@ -6,7 +6,7 @@ ghost use Rattle.duty.specs.Groups.{GroupEnds};
 use crate::entries::Entry;
 
 // How many entries the group at the front has: its head, and the deeper ones that follow.
-pub fn group_len(entries: &[Entry]) -> usize
+pub(crate) fn group_len(entries: &[Entry]) -> usize
     ensures within { λ r. ⌜ r ≤ length (now (entries .entry)) ⌝ }
     ensures ends { λ r. ⌜ GroupEnds (now (entries .entry)) r ⌝ }
 {

@@ -75,7 +75,7 @@ fn judge_rule(
 }
 
 // Writes the verdicts of the rules and their entries after one more line.
-pub fn judge_rules(
+pub(crate) fn judge_rules(
     rules: &[Rule],
     verdicts: &[Verdict],
     sheet: &[Entry],
@@ -102,7 +102,7 @@ pub fn judge_rules(
 }
 
 // Writes the verdicts of the rules and their entries before any line.
-pub fn open_rules(rules: &[Rule], verdicts: &mut Vec<Verdict>, draft: &mut Draft)
+pub(crate) fn open_rules(rules: &[Rule], verdicts: &mut Vec<Verdict>, draft: &mut Draft)
     requires size { ⌜ allNodes (pureRules (now rules)) ≤ 64 ⌝ }
     requires nesting { ⌜ deepest (pureRules (now rules)) ≤ 8 ⌝ }
     requires numbers { ⌜ largest (pureRules (now rules)) ≤ 9999999 ⌝ }

@@ -8,13 +8,13 @@ ghost use Rattle.book.specs.Sizes.{partNumber, sumNumber, conditionsNumber, pat
 ghost use Rattle.book.specs.Trees.{purePattern};
 ghost use Rattle.duty.specs.Clashes.{clashes};
 ghost use Rattle.duty.specs.Matching.{Bindings, partValue, sumValue, holds, allHold, agrees, bind, matches, effect};
+use book::rules::Pattern;
 use book::terms::Binder;
 use book::terms::Condition;
 use book::terms::Operand;
 use book::terms::Part;
 use book::terms::Sign;
 use book::terms::Sum;
-use book::rules::Pattern;
 use feed::lines::Line;
 
 // What a line does to a rule that stands between two patterns: the second ends it, the first acts, with the
@@ -144,7 +144,7 @@ fn ruled_out(binders: &[Binder], line: &Line, letters: &[Option<u32>; 8]) -> boo
 }
 
 // The letters that a match gives, enlarged by the new ones.
-pub fn matched(
+pub(crate) fn matched(
     pattern: &Pattern,
     line: &Line,
     letters: &[Option<u32>; 8],
@@ -172,7 +172,7 @@ pub fn matched(
 }
 
 // The deadline or end is tested first.
-pub fn effect_of(act: &Pattern, end: &Pattern, line: &Line, letters: &[Option<u32>; 8]) -> Effect
+pub(crate) fn effect_of(act: &Pattern, end: &Pattern, line: &Line, letters: &[Option<u32>; 8]) -> Effect
     requires act { ⌜ patternNumber (purePattern (now act)) ≤ 9999999 ⌝ }
     requires end { ⌜ patternNumber (purePattern (now end)) ≤ 9999999 ⌝ }
     ensures { λ r. ⌜ r ≡ effect (purePattern (now (act .entry))) (purePattern (now (end .entry))) (now (letters .entry)) (now (line .entry)) ⌝ }
@@ -199,7 +199,7 @@ fn misses_number(binders: &[Binder], line: &Line) -> bool
 }
 
 // A pattern that does not match this line under any letters, since a number of it is not in the line.
-pub fn never_matches(pattern: &Pattern, line: &Line) -> bool
+pub(crate) fn never_matches(pattern: &Pattern, line: &Line) -> bool
     ensures { λ r. ⌜ (T r → (f : Bindings) → matches (purePattern (now (pattern .entry))) (now (line .entry)) f ≡ None) ⌝ }
 {
     match pattern {

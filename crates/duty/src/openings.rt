@@ -8,11 +8,11 @@ ghost use Rattle.duty.specs.Drafts.{Adds};
 ghost use Rattle.duty.specs.Places.{Placed};
 use crate::drafts::Draft;
 use crate::places::Place;
-use book::terms::BracketKind;
 use book::rules::Rule;
+use book::terms::BracketKind;
 
 // How many nodes a rule has.
-pub fn count_nodes(rule: &Rule) -> u8
+pub(crate) fn count_nodes(rule: &Rule) -> u8
     requires { ⌜ nodes (pureRule (now rule)) ≤ 255 ⌝ }
     ensures { λ r. ⌜ r ≡ nodes (pureRule (now (rule .entry))) ⌝ }
 {
@@ -24,7 +24,7 @@ pub fn count_nodes(rule: &Rule) -> u8
 }
 
 // Writes the entries of a rule that begins under these letters.
-pub fn open_rule(rule: &Rule, place: Place, letters: &[Option<u32>; 8], draft: &mut Draft)
+pub(crate) fn open_rule(rule: &Rule, place: Place, letters: &[Option<u32>; 8], draft: &mut Draft)
     requires { ⌜ Placed place (pureRule (now rule)) ⌝ }
     ensures { λ _. ⌜ Adds (now (draft .entry)) (now (draft .exit)) (entries (pureRule (now (rule .entry))) (place .node) (place .level) (start (pureRule (now (rule .entry))) (now (letters .entry)))) ⌝ }
 {

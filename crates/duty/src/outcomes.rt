@@ -19,7 +19,7 @@ pub enum Sides {
     Right,
 }
 
-pub fn sides_of(left: Outcome, right: Outcome) -> Sides
+pub(crate) fn sides_of(left: Outcome, right: Outcome) -> Sides
     ensures { λ r. ⌜ r ≡ sides left right ⌝ }
 {
     match left {

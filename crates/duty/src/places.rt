@@ -13,7 +13,7 @@ pub struct Place {
 
 impl Place {
     // A rule inside, some nodes further on, at the same level.
-    pub fn inside(self, nodes: u8) -> Place
+    pub(crate) fn inside(self, nodes: u8) -> Place
         requires node { ⌜ self .node + nodes < 256 ⌝ }
         requires budget { ⌜ 1 ≤ self .budget ⌝ }
         ensures node { λ r. ⌜ r .node ≡ self .node + nodes ⌝ }
@@ -28,7 +28,7 @@ impl Place {
     }
 
     // A rule inside, some nodes further on, one level deeper.
-    pub fn below(self, nodes: u8) -> Place
+    pub(crate) fn below(self, nodes: u8) -> Place
         requires node { ⌜ self .node + nodes < 256 ⌝ }
         requires level { ⌜ self .level + 1 < 256 ⌝ }
         requires budget { ⌜ 1 ≤ self .budget ⌝ }

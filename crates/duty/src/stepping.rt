@@ -25,14 +25,14 @@ use crate::steps::keep_duties;
 use crate::steps::passed_by;
 use crate::steps::step_duty;
 use crate::steps::step_waiting;
-use book::terms::BracketKind;
-use book::terms::TriggerKind;
 use book::rules::Pattern;
 use book::rules::Rule;
+use book::terms::BracketKind;
+use book::terms::TriggerKind;
 use feed::lines::Line;
 
 // What one line leaves of a rule whose entries are this group; a decided rule writes none.
-pub fn step_rule(
+pub(crate) fn step_rule(
     rule: &Rule,
     place: Place,
     group: &[Entry],

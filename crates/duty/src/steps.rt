@@ -18,13 +18,13 @@ use crate::matching::never_matches;
 use crate::openings::open_rule;
 use crate::outcomes::Outcome;
 use crate::places::Place;
-use book::terms::DutyKind;
 use book::rules::Pattern;
 use book::rules::Rule;
+use book::terms::DutyKind;
 use feed::lines::Line;
 
 // A duty under these letters: the deadline before the act.
-pub fn step_duty(
+pub(crate) fn step_duty(
     kind: DutyKind,
     act: &Pattern,
     deadline: &Pattern,
@@ -53,7 +53,7 @@ pub fn step_duty(
 }
 
 // A `once` that has not been triggered. The line that triggers it is not shown to its duty.
-pub fn step_waiting(
+pub(crate) fn step_waiting(
     start: &Pattern,
     end: &Pattern,
     duty: &Rule,
@@ -79,7 +79,7 @@ pub fn step_waiting(
 }
 
 // What a line does to an `each`: one that is marked has ended, and looks at no line.
-pub fn each_effect(
+pub(crate) fn each_effect(
     start: &Pattern,
     end: &Pattern,
     mark: bool,
@@ -97,7 +97,7 @@ pub fn each_effect(
     }
 }
 
-pub fn ends_each(effect: Effect) -> bool
+pub(crate) fn ends_each(effect: Effect) -> bool
     ensures { λ r. ⌜ r ≡ marks effect ⌝ }
 {
     match effect {
@@ -108,7 +108,7 @@ pub fn ends_each(effect: Effect) -> bool
 
 // An `each` whose duties have stepped, none of them to a breach: it is satisfied if it has ended and no duty is
 // left; the line that acts opens one more, and is not shown to it.
-pub fn close_each(
+pub(crate) fn close_each(
     effect: Effect,
     left: Outcome,
     duty: &Rule,
@@ -136,7 +136,7 @@ pub fn close_each(
 }
 
 // A duty that this line passes by, whatever its letters.
-pub fn passed_by(rule: &Rule, line: &Line) -> bool
+pub(crate) fn passed_by(rule: &Rule, line: &Line) -> bool
     ensures { λ r. ⌜ (T r → PassedBy (pureRule (now (rule .entry))) (now (line .entry))) ⌝ }
 {
     match rule {
@@ -146,7 +146,7 @@ pub fn passed_by(rule: &Rule, line: &Line) -> bool
 }
 
 // Duties that the line passes by stay as they are.
-pub fn keep_duties(place: Place, below: &[Entry], draft: &mut Draft) -> Outcome
+pub(crate) fn keep_duties(place: Place, below: &[Entry], draft: &mut Draft) -> Outcome
     ensures { λ r. ⌜ KeepsAll place (now (below .entry)) (now (draft .entry)) r (now (draft .exit)) ⌝ }
 {
     for entry in below {

@@ -131,16 +131,20 @@ symbol-step bs n o h dark letter digit s = go (isAngle (getD bs n 0) && nextIs 6
         let got : symbolOf (getD bs n 0 ∷ 61 ∷ []) ≡ symbolStretch o = sym (ap (λ v. symbolOf (cond v (getD bs n 0 ∷ 61 ∷ []) (getD bs n 0 ∷ []))) e) ∙ s .is in
         let le : n + 2 ≤ length bs = omega (arith, sym (length-drop (n + 1) bs) ∙ ap length (nx .1)) in
         let w : take 2 (drop n bs) ≡ getD bs n 0 ∷ 61 ∷ [] = ap (take 2) (cut bs n h ∙ ap (λ l. getD bs n 0 ∷ l) (nx .1)) in
-        let st : tokensAt bs n ≡ placed n (stretchOn (getD bs n 0) (take 2 (drop n bs))) ∷ tokensAt bs (n + 2) = stretch bs n h dark 1 (extent-symbol (getD bs n 0) (drop (n + 1) bs) letter digit ∙ ap (λ v. cond v 2 1) e) le in
-        (omega arith, omega arith,
-         st ∙ ap (λ g. placed n g ∷ tokensAt bs (n + 2)) (on-symbol (getD bs n 0) (take 2 (drop n bs)) letter digit ∙ ap symbolOf w ∙ got) ∙ ap (λ k. placed n (symbolStretch o) ∷ tokensAt bs (n + k)) (sym span))
+        let st : tokensAt bs n ≡ placed n (stretchOn (getD bs n 0) (take 2 (drop n bs))) ∷ tokensAt bs (n + 2) = stretch bs n h dark 1 (extent-symbol (getD bs n 0) (drop (n + 1) bs) letter digit ∙ ap (λ v. cond v 2 1) e) le in (
+          omega arith,
+          omega arith,
+          st ∙ ap (λ g. placed n g ∷ tokensAt bs (n + 2)) (on-symbol (getD bs n 0) (take 2 (drop n bs)) letter digit ∙ ap symbolOf w ∙ got) ∙ ap (λ k. placed n (symbolStretch o) ∷ tokensAt bs (n + k)) (sym span),
+        )
     go false e =
         let span : symbolSpan o ≡ 1 = s .span ∙ ap (λ v. cond v 2 1) e in
         let got : symbolOf (getD bs n 0 ∷ []) ≡ symbolStretch o = sym (ap (λ v. symbolOf (cond v (getD bs n 0 ∷ 61 ∷ []) (getD bs n 0 ∷ []))) e) ∙ s .is in
         let w : take 1 (drop n bs) ≡ getD bs n 0 ∷ [] = ap (take 1) (cut bs n h) in
-        let st : tokensAt bs n ≡ placed n (stretchOn (getD bs n 0) (take 1 (drop n bs))) ∷ tokensAt bs (n + 1) = stretch bs n h dark 0 (extent-symbol (getD bs n 0) (drop (n + 1) bs) letter digit ∙ ap (λ v. cond v 2 1) e) (omega arith) in
-        (omega arith, omega arith,
-         st ∙ ap (λ g. placed n g ∷ tokensAt bs (n + 1)) (on-symbol (getD bs n 0) (take 1 (drop n bs)) letter digit ∙ ap symbolOf w ∙ got) ∙ ap (λ k. placed n (symbolStretch o) ∷ tokensAt bs (n + k)) (sym span))
+        let st : tokensAt bs n ≡ placed n (stretchOn (getD bs n 0) (take 1 (drop n bs))) ∷ tokensAt bs (n + 1) = stretch bs n h dark 0 (extent-symbol (getD bs n 0) (drop (n + 1) bs) letter digit ∙ ap (λ v. cond v 2 1) e) (omega arith) in (
+          omega arith,
+          omega arith,
+          st ∙ ap (λ g. placed n g ∷ tokensAt bs (n + 1)) (on-symbol (getD bs n 0) (take 1 (drop n bs)) letter digit ∙ ap symbolOf w ∙ got) ∙ ap (λ k. placed n (symbolStretch o) ∷ tokensAt bs (n + k)) (sym span),
+        )
 
 data Goes : Stretch → Type 0 where
   goes : {s : Stretch} → isEnd s ≡ false → Goes s
@@ -154,21 +158,23 @@ pick false p q = q
 
 symbol-goes : (w : List ℕ) → Goes (symbolOf w)
 unfolding symbolOf
-symbol-goes w = 
-    pick (same w (codes "<=")) (goes refl) (pick (same w (codes ">=")) (goes refl) (pick (same w (codes "=")) (goes refl) (pick (same w (codes "+")) (goes refl) 
-    (pick (same w (codes "*")) (goes refl) (pick (same w (codes ",")) (goes refl) (pick (same w (codes ";")) (goes refl) (pick (same w (codes "(")) (goes refl) 
-    (pick (same w (codes ")")) (goes refl) (pick (same w (codes "[")) (goes refl) (pick (same w (codes "]")) (goes refl) (goes refl))))))))))) 
- 
+symbol-goes w =
+    pick (same w (codes "<=")) (goes refl) (pick (same w (codes ">=")) (goes refl) (pick (same w (codes "=")) (goes refl) (pick (same w (codes "+")) (goes refl)
+    (pick (same w (codes "*")) (goes refl) (pick (same w (codes ",")) (goes refl) (pick (same w (codes ";")) (goes refl) (pick (same w (codes "(")) (goes refl)
+    (pick (same w (codes ")")) (goes refl) (pick (same w (codes "[")) (goes refl) (pick (same w (codes "]")) (goes refl) (goes refl)))))))))))
+
 -- where no blank stands, something other than the end does
 pub begins : (bs : List ℕ) (n : ℕ) → n < length bs → isBlank (getD bs n 0) ≡ false → (s : Stretch) × (rest : List Placed) × (tokensAt bs n ≡ placed n s ∷ rest) × (isEnd s ≡ false)
 unfolding tokensAt
 begins bs n h e =
     let b = getD bs n 0 in
     let r = drop (n + 1) bs in
-    let w = take (extent b r) (b ∷ r) in
-    (stretchOn b w, stretchesFrom (n + 1) (extent b r - 1) r,
-     ap (stretchesFrom n 0) (cut bs n h) ∙ ap (λ t. cond t (stretchesFrom (n + 1) 0 r) (placed n (stretchOn b w) ∷ stretchesFrom (n + 1) (extent b r - 1) r)) e,
-     still (stretchOn b w) (pick (isLetter b) (goes refl) (pick (isDigit b) (goes refl) (symbol-goes w))))
+    let w = take (extent b r) (b ∷ r) in (
+      stretchOn b w,
+      stretchesFrom (n + 1) (extent b r - 1) r,
+      ap (stretchesFrom n 0) (cut bs n h) ∙ ap (λ t. cond t (stretchesFrom (n + 1) 0 r) (placed n (stretchOn b w) ∷ stretchesFrom (n + 1) (extent b r - 1) r)) e,
+      still (stretchOn b w) (pick (isLetter b) (goes refl) (pick (isDigit b) (goes refl) (symbol-goes w))),
+    )
 
 -- what stands at n, where only blanks are before it from m on
 pub ended : (bs : List ℕ) (m n : ℕ) (r : Bool) → leb (length bs) n ≡ r → tokensAt bs m ≡ tokensAt bs n → (n < length bs → isBlank (getD bs n 0) ≡ false) → AtEnd (tokensAt bs m) r (tokensAt bs n)

@@ -150,7 +150,7 @@ pub fn at_end(cur: &mut Cursor<'_>) -> bool
     let text = cur.text;
     let place = skip_blanks(text, cur.pos);
     cur.pos = place;
-    place >= text.len()
+    cur.pos >= text.len()
 }
 
 // The next token, which is then passed; the end of the text stays ahead.
@@ -161,7 +161,10 @@ pub fn next<'a>(cur: &mut Cursor<'a>) -> Found<'a>
     let place = skip_blanks(text, cur.pos);
     if place >= text.len() {
         cur.pos = place;
-        return Found { token: Token::End, place };
+        return Found {
+            token: Token::End,
+            place,
+        };
     }
     let token = token_at(text, place);
     cur.pos = place + token_len(token);

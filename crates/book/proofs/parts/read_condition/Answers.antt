@@ -45,9 +45,9 @@ returns-in-Break-right c =
     let A = sumItems k s a in
     let p = err-from-errBy (c .from-residual-in-Break-right .result) (c .from-residual-in-Break-right .ensures .1) in
     rw (p .1, p .2) (within Sum Condition (sumItems k s) SumStops (conditionItems k s) ConditionStops (A ++ (mark (Compare g) ∷ [])) (λ x. condition a g x) (λ _. [])
-      (λ x. ap (λ l. A ++ (mark (Compare g) ∷ l)) (sym (append-nil (sumItems k s x))) ∙ sym (append-assoc A (mark (Compare g) ∷ []) (sumItems k s x ++ [])))
-      (λ y u v f e. inv-right k s a g y u v f (e ∙ flat A (mark (Compare g)) [] v)) _ _ _ _
-      (with-token _ _ A (c .in-Continue-left .compare) (mark (Compare g)) (c .in-Continue-left .ensures tt .0) (c .in-Compare .is) refl refl) (c .in-Break-right .ensures tt))
+    (λ x. ap (λ l. A ++ (mark (Compare g) ∷ l)) (sym (append-nil (sumItems k s x))) ∙ sym (append-assoc A (mark (Compare g) ∷ []) (sumItems k s x ++ [])))
+    (λ y u v f e. inv-right k s a g y u v f (e ∙ flat A (mark (Compare g)) [] v)) _ _ _ _
+    (with-token _ _ A (c .in-Continue-left .compare) (mark (Compare g)) (c .in-Continue-left .ensures tt .0) (c .in-Compare .is) refl refl) (c .in-Break-right .ensures tt))
 
 pub returns : need.returns
 returns c =
@@ -56,6 +56,8 @@ returns c =
     let g = c .in-Compare .sign in
     let A = sumItems k s (c .in-Continue-left .left) in
     let B = sumItems k s (c .in-Continue-right .right) in
-    let told = c .in-Continue-right .ensures tt in
-    (passed-then _ _ _ (A ++ (mark (Compare g) ∷ [])) B _ (c .in-Continue-right .after) (append-assoc A (mark (Compare g) ∷ []) B)
-      (with-token _ _ A (c .in-Continue-left .compare) (mark (Compare g)) (c .in-Continue-left .ensures tt .0) (c .in-Compare .is) refl refl) (told .0), told .1)
+    let told = c .in-Continue-right .ensures tt in (
+      passed-then _ _ _ (A ++ (mark (Compare g) ∷ [])) B _ (c .in-Continue-right .after) (append-assoc A (mark (Compare g) ∷ []) B)
+          (with-token _ _ A (c .in-Continue-left .compare) (mark (Compare g)) (c .in-Continue-left .ensures tt .0) (c .in-Compare .is) refl refl) (told .0),
+      told .1,
+    )

@@ -40,8 +40,8 @@ returns-in-Break-letter c =
     let p = err-from-errBy (c .from-residual-in-Break-letter .result) (c .from-residual-in-Break-letter .ensures .1) in
     let first = alike _ _ _ _ (ap (partItems k s) (c .in-Number .is)) (c .in-Continue-lead .ensures tt) in
     rw (p .1, p .2) (within Letter Part (letterItems k s) (any Letter) (partItems k s) PartStops (item (Numeral n) (counts k) ∷ mark Times ∷ []) (λ l. Product n l) (λ _. []) (λ _. refl) (inv-product k s n) _ _ _ _
-      (then _ _ _ (item (Numeral n) (counts k) ∷ []) (mark Times ∷ []) first (one _ (nx .0) _ (c .in-Continue-seen .seen) (mark Times) (nx .1) (nx .2) (c .in-Times .is) refl refl))
-      (c .in-Break-letter .ensures tt))
+    (then _ _ _ (item (Numeral n) (counts k) ∷ []) (mark Times ∷ []) first (one _ (nx .0) _ (c .in-Continue-seen .seen) (mark Times) (nx .1) (nx .2) (c .in-Times .is) refl refl))
+    (c .in-Break-letter .ensures tt))
 
 pub returns-in-Break-after : need.returns-in-Break-after
 returns-in-Break-after c =
@@ -54,9 +54,9 @@ returns-in-Break-after c =
     let p = err-from-errBy (c .from-residual-in-Break-after .result) (c .from-residual-in-Break-after .ensures .1) in
     let first = alike _ _ _ _ (ap (partItems k s) (c .in-Number .is)) (c .in-Continue-lead .ensures tt) in
     rw (p .1, p .2) (no-token Part (partItems k s) PartStops (partItems k s (Product n l)) (Product n l) [] refl _ _ (ny .0) (c .in-Break-after .field-0 .0)
-      (then _ _ _ (item (Numeral n) (counts k) ∷ mark Times ∷ []) (letterItems k s l)
-        (then _ _ _ (item (Numeral n) (counts k) ∷ []) (mark Times ∷ []) first (one _ (nx .0) _ (c .in-Continue-seen .seen) (mark Times) (nx .1) (nx .2) (c .in-Times .is) refl refl))
-        (c .in-Continue-letter .ensures tt)) (ny .1))
+    (then _ _ _ (item (Numeral n) (counts k) ∷ mark Times ∷ []) (letterItems k s l)
+    (then _ _ _ (item (Numeral n) (counts k) ∷ []) (mark Times ∷ []) first (one _ (nx .0) _ (c .in-Continue-seen .seen) (mark Times) (nx .1) (nx .2) (c .in-Times .is) refl refl))
+    (c .in-Continue-letter .ensures tt)) (ny .1))
 
 pub returns : need.returns
 returns c =
@@ -66,8 +66,10 @@ returns c =
     let l = c .in-Continue-letter .letter in
     let nx = c .in-Continue-seen .ensures tt in
     let ny = c .in-Continue-after .ensures tt in
-    let first = alike _ _ _ _ (ap (partItems k s) (c .in-Number .is)) (c .in-Continue-lead .ensures tt) in
-    (passed _ _ (ny .0) _ (partItems k s (Product n l)) (c .in-Continue-after .after)
-      (then _ _ _ (item (Numeral n) (counts k) ∷ mark Times ∷ []) (letterItems k s l)
-        (then _ _ _ (item (Numeral n) (counts k) ∷ []) (mark Times ∷ []) first (one _ (nx .0) _ (c .in-Continue-seen .seen) (mark Times) (nx .1) (nx .2) (c .in-Times .is) refl refl))
-        (c .in-Continue-letter .ensures tt)) (ny .1) (ny .2), tt)
+    let first = alike _ _ _ _ (ap (partItems k s) (c .in-Number .is)) (c .in-Continue-lead .ensures tt) in (
+      passed _ _ (ny .0) _ (partItems k s (Product n l)) (c .in-Continue-after .after)
+          (then _ _ _ (item (Numeral n) (counts k) ∷ mark Times ∷ []) (letterItems k s l)
+          (then _ _ _ (item (Numeral n) (counts k) ∷ []) (mark Times ∷ []) first (one _ (nx .0) _ (c .in-Continue-seen .seen) (mark Times) (nx .1) (nx .2) (c .in-Times .is) refl refl))
+          (c .in-Continue-letter .ensures tt)) (ny .1) (ny .2),
+      tt,
+    )

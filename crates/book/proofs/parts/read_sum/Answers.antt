@@ -33,9 +33,9 @@ returns-in-Break-second c =
     let A = partItems k s a in
     let p = err-from-errBy (c .from-residual-in-Break-second .result) (c .from-residual-in-Break-second .ensures .1) in
     rw (p .1, p .2) (within Part Sum (partItems k s) PartStops (sumItems k s) SumStops (A ++ (mark Plus ∷ [])) (λ x. Two a x) (λ _. [])
-      (λ x. ap (λ l. A ++ (mark Plus ∷ l)) (sym (append-nil (partItems k s x))) ∙ sym (append-assoc A (mark Plus ∷ []) (partItems k s x ++ [])))
-      (λ y u v f e. inv-two k s a y u v f (e ∙ flat A (mark Plus) [] v)) _ _ _ _
-      (with-token _ _ A (c .in-Continue-first .plus) (mark Plus) (c .in-Continue-first .ensures tt .0) (c .in-Plus .is) refl refl) (c .in-Break-second .ensures tt))
+    (λ x. ap (λ l. A ++ (mark Plus ∷ l)) (sym (append-nil (partItems k s x))) ∙ sym (append-assoc A (mark Plus ∷ []) (partItems k s x ++ [])))
+    (λ y u v f e. inv-two k s a y u v f (e ∙ flat A (mark Plus) [] v)) _ _ _ _
+    (with-token _ _ A (c .in-Continue-first .plus) (mark Plus) (c .in-Continue-first .ensures tt .0) (c .in-Plus .is) refl refl) (c .in-Break-second .ensures tt))
 
 pub returns-in-rest-terminal : need.returns-in-rest-terminal
 returns-in-rest-terminal c =
@@ -43,10 +43,11 @@ returns-in-rest-terminal c =
     let s = c .args .bound in
     let A = partItems k s (c .in-Continue-first .first) in
     let B = partItems k s (c .in-Continue-second .second) in
-    let two = c .in-Continue-second .ensures tt in
-    (passed-then _ _ _ (A ++ (mark Plus ∷ [])) B _ (c .in-Continue-second .more) (append-assoc A (mark Plus ∷ []) B)
-      (with-token _ _ A (c .in-Continue-first .plus) (mark Plus) (c .in-Continue-first .ensures tt .0) (c .in-Plus .is) refl refl) (two .0),
-     (c .in-rest-terminal .not-Plus, two .1))
+    let two = c .in-Continue-second .ensures tt in (
+      passed-then _ _ _ (A ++ (mark Plus ∷ [])) B _ (c .in-Continue-second .more) (append-assoc A (mark Plus ∷ []) B)
+          (with-token _ _ A (c .in-Continue-first .plus) (mark Plus) (c .in-Continue-first .ensures tt .0) (c .in-Plus .is) refl refl) (two .0),
+      (c .in-rest-terminal .not-Plus, two .1),
+    )
 
 pub returns-in-Break-third : need.returns-in-Break-third
 returns-in-Break-third c =
@@ -58,13 +59,13 @@ returns-in-Break-third c =
     let B = partItems k s b in
     let p = err-from-errBy (c .from-residual-in-Break-third .result) (c .from-residual-in-Break-third .ensures .1) in
     rw (p .1, p .2) (within Part Sum (partItems k s) PartStops (sumItems k s) SumStops (A ++ (mark Plus ∷ (B ++ (mark Plus ∷ [])))) (λ x. Three a b x) (λ _. [])
-      (λ x. ap (λ l. A ++ (mark Plus ∷ (B ++ (mark Plus ∷ l)))) (sym (append-nil (partItems k s x))) ∙ ap (λ l. A ++ (mark Plus ∷ l)) (sym (append-assoc B (mark Plus ∷ []) (partItems k s x ++ []))) ∙ sym (append-assoc A (mark Plus ∷ (B ++ (mark Plus ∷ []))) (partItems k s x ++ [])))
-      (λ y u v f e. inv-three k s a b y u v f (e ∙ flat A (mark Plus) (B ++ (mark Plus ∷ [])) v ∙ ap (λ l. tokensOf A ++ Plus ∷ l) (flat B (mark Plus) [] v))) _ _ _ _
-      (alike _ _ _ _ (append-assoc A (mark Plus ∷ []) (B ++ (mark Plus ∷ [])))
-        (then _ _ _ (A ++ (mark Plus ∷ [])) (B ++ (mark Plus ∷ []))
-          (with-token _ _ A (c .in-Continue-first .plus) (mark Plus) (c .in-Continue-first .ensures tt .0) (c .in-Plus .is) refl refl)
-          (with-token _ _ B (c .in-Continue-second .more) (mark Plus) (c .in-Continue-second .ensures tt .0) (c .in-Plus-terminal .is) refl refl)))
-      (c .in-Break-third .ensures tt))
+    (λ x. ap (λ l. A ++ (mark Plus ∷ (B ++ (mark Plus ∷ l)))) (sym (append-nil (partItems k s x))) ∙ ap (λ l. A ++ (mark Plus ∷ l)) (sym (append-assoc B (mark Plus ∷ []) (partItems k s x ++ []))) ∙ sym (append-assoc A (mark Plus ∷ (B ++ (mark Plus ∷ []))) (partItems k s x ++ [])))
+    (λ y u v f e. inv-three k s a b y u v f (e ∙ flat A (mark Plus) (B ++ (mark Plus ∷ [])) v ∙ ap (λ l. tokensOf A ++ Plus ∷ l) (flat B (mark Plus) [] v))) _ _ _ _
+    (alike _ _ _ _ (append-assoc A (mark Plus ∷ []) (B ++ (mark Plus ∷ [])))
+    (then _ _ _ (A ++ (mark Plus ∷ [])) (B ++ (mark Plus ∷ []))
+    (with-token _ _ A (c .in-Continue-first .plus) (mark Plus) (c .in-Continue-first .ensures tt .0) (c .in-Plus .is) refl refl)
+    (with-token _ _ B (c .in-Continue-second .more) (mark Plus) (c .in-Continue-second .ensures tt .0) (c .in-Plus-terminal .is) refl refl)))
+    (c .in-Break-third .ensures tt))
 
 pub returns : need.returns
 returns c =
@@ -73,10 +74,12 @@ returns c =
     let A = partItems k s (c .in-Continue-first .first) in
     let B = partItems k s (c .in-Continue-second .second) in
     let C = partItems k s (c .in-Continue-third .third) in
-    let three = c .in-Continue-third .ensures tt in
-    (passed-then _ _ _ ((A ++ (mark Plus ∷ [])) ++ (B ++ (mark Plus ∷ []))) C _ (c .in-Continue-third .after)
-      (append-assoc (A ++ (mark Plus ∷ [])) (B ++ (mark Plus ∷ [])) C ∙ append-assoc A (mark Plus ∷ []) ((B ++ (mark Plus ∷ [])) ++ C) ∙ ap (λ l. A ++ (mark Plus ∷ l)) (append-assoc B (mark Plus ∷ []) C))
-      (then _ _ _ (A ++ (mark Plus ∷ [])) (B ++ (mark Plus ∷ []))
-        (with-token _ _ A (c .in-Continue-first .plus) (mark Plus) (c .in-Continue-first .ensures tt .0) (c .in-Plus .is) refl refl)
-        (with-token _ _ B (c .in-Continue-second .more) (mark Plus) (c .in-Continue-second .ensures tt .0) (c .in-Plus-terminal .is) refl refl))
-      (three .0), three .1)
+    let three = c .in-Continue-third .ensures tt in (
+      passed-then _ _ _ ((A ++ (mark Plus ∷ [])) ++ (B ++ (mark Plus ∷ []))) C _ (c .in-Continue-third .after)
+          (append-assoc (A ++ (mark Plus ∷ [])) (B ++ (mark Plus ∷ [])) C ∙ append-assoc A (mark Plus ∷ []) ((B ++ (mark Plus ∷ [])) ++ C) ∙ ap (λ l. A ++ (mark Plus ∷ l)) (append-assoc B (mark Plus ∷ []) C))
+          (then _ _ _ (A ++ (mark Plus ∷ [])) (B ++ (mark Plus ∷ []))
+          (with-token _ _ A (c .in-Continue-first .plus) (mark Plus) (c .in-Continue-first .ensures tt .0) (c .in-Plus .is) refl refl)
+          (with-token _ _ B (c .in-Continue-second .more) (mark Plus) (c .in-Continue-second .ensures tt .0) (c .in-Plus-terminal .is) refl refl))
+          (three .0),
+      three .1,
+    )

@@ -33,7 +33,7 @@ returns-in-Break-condition t c =
     let s = c .args .bound in
     let p = err-from-errBy (c .from-residual .result) (c .from-residual .ensures .1) in
     rw (p .1, p .2) (within Condition (Condition × List Condition) (conditionItems k s) ConditionStops (conditionsClosed k s) (any (Condition × List Condition)) [] (λ x. (x, [])) (λ _. mark CloseSquare ∷ []) (λ _. refl)
-      (λ y u v _ q. inv-condition k s (y .0) (y .1) u v q) _ _ _ _ (start _ _ refl) (c .in-Break-condition .ensures tt))
+    (λ y u v _ q. inv-condition k s (y .0) (y .1) u v q) _ _ _ _ (start _ _ refl) (c .in-Break-condition .ensures tt))
 
 pub read-conditions-requires : need.read-conditions-requires
 read-conditions-requires t c κs =
@@ -42,9 +42,12 @@ read-conditions-requires t c κs =
 
 pub returns-in-CloseSquare : need.returns-in-CloseSquare
 returns-in-CloseSquare t c =
-    let A = conditionItems (c .args .k) (c .args .bound) (c .in-Continue-condition .condition) in
-    (c .in-Continue-condition .condition, [], c .in-Continue-push .ensures tt .items,
-     with-token _ _ A (c .in-Continue-condition .after) (mark CloseSquare) (c .in-Continue-condition .ensures tt .0) (c .in-CloseSquare .is) refl refl)
+    let A = conditionItems (c .args .k) (c .args .bound) (c .in-Continue-condition .condition) in (
+      c .in-Continue-condition .condition,
+      [],
+      c .in-Continue-push .ensures tt .items,
+      with-token _ _ A (c .in-Continue-condition .after) (mark CloseSquare) (c .in-Continue-condition .ensures tt .0) (c .in-CloseSquare .is) refl refl,
+    )
 
 pub returns-in-Comma : need.returns-in-Comma
 returns-in-Comma t c =

@@ -40,8 +40,8 @@ returns-in-Break-field t c =
     let ls = c .args .letters in
     let p = err-from-errBy (c .from-residual-in-Break-field .result) (c .from-residual-in-Break-field .ensures .1) in
     rw (p .1, p .2) (within Field (List Binder × Bool) (fieldItems fs) (any Field) (moreClosed fs ls) (any (List Binder × Bool)) (mark Comma ∷ []) (λ f. (binder f (Number 0) ∷ [], false)) (λ _. mark (Numeral 0) ∷ mark CloseSquare ∷ []) (λ _. refl)
-      (λ y u v _ q. let i = inv-field fs ls (y .0) (y .1) u v q in (i .0, i .1, closed (i .0) (i .1), i .2)) _ _ _ _
-      (one _ (nx .0) _ (c .in-Continue-seen .seen) (mark Comma) (nx .1) (nx .2) (c .in-Comma .is) refl refl) (c .in-Break-field .ensures tt))
+    (λ y u v _ q. let i = inv-field fs ls (y .0) (y .1) u v q in (i .0, i .1, closed (i .0) (i .1), i .2)) _ _ _ _
+    (one _ (nx .0) _ (c .in-Continue-seen .seen) (mark Comma) (nx .1) (nx .2) (c .in-Comma .is) refl refl) (c .in-Break-field .ensures tt))
 
 pub returns-in-Break-operand : need.returns-in-Break-operand
 returns-in-Break-operand t c =
@@ -51,8 +51,8 @@ returns-in-Break-operand t c =
     let f = c .in-Continue-field .field in
     let p = err-from-errBy (c .from-residual-in-Break-operand .result) (c .from-residual-in-Break-operand .ensures .1) in
     rw (p .1, p .2) (within Operand (List Binder × Bool) (operandItems ls) (any Operand) (moreClosed fs ls) (any (List Binder × Bool)) (mark Comma ∷ item (Named f) (names fs f) ∷ []) (λ o. (binder f o ∷ [], false)) (λ _. mark CloseSquare ∷ []) (λ _. refl)
-      (λ y u v _ q. let i = inv-operand fs ls f (y .0) (y .1) u v q in (i .0, i .1, closed (i .0) (i .1), i .2)) _ _ _ _
-      (then _ _ _ (mark Comma ∷ []) (fieldItems fs f) (one _ (nx .0) _ (c .in-Continue-seen .seen) (mark Comma) (nx .1) (nx .2) (c .in-Comma .is) refl refl) (c .in-Continue-field .ensures tt)) (c .in-Break-operand .ensures tt))
+    (λ y u v _ q. let i = inv-operand fs ls f (y .0) (y .1) u v q in (i .0, i .1, closed (i .0) (i .1), i .2)) _ _ _ _
+    (then _ _ _ (mark Comma ∷ []) (fieldItems fs f) (one _ (nx .0) _ (c .in-Continue-seen .seen) (mark Comma) (nx .1) (nx .2) (c .in-Comma .is) refl refl) (c .in-Continue-field .ensures tt)) (c .in-Break-operand .ensures tt))
 
 pub returns-in-If : need.returns-in-If
 returns-in-If t c =
@@ -78,9 +78,9 @@ read-more-binders-requires t c κs =
     let fs = c .args .fields in
     let ls = c .args .letters in
     let less : length (coming (c .read-operand .last .cur)) < length (coming (c .args .cur .now)) =
-          shrinks _ _ (mark Comma) (fieldItems fs (c .in-Continue-field .field) ++ operandItems ls (c .in-Continue-operand .operand))
-            (then _ _ _ (mark Comma ∷ []) (fieldItems fs (c .in-Continue-field .field) ++ operandItems ls (c .in-Continue-operand .operand)) (one _ (nx .0) _ (c .in-Continue-seen .seen) (mark Comma) (nx .1) (nx .2) (c .in-Comma .is) refl refl)
-              (then _ _ _ (fieldItems fs (c .in-Continue-field .field)) (operandItems ls (c .in-Continue-operand .operand)) (c .in-Continue-field .ensures tt) (c .in-Continue-operand .ensures tt))) in
+    shrinks _ _ (mark Comma) (fieldItems fs (c .in-Continue-field .field) ++ operandItems ls (c .in-Continue-operand .operand))
+    (then _ _ _ (mark Comma ∷ []) (fieldItems fs (c .in-Continue-field .field) ++ operandItems ls (c .in-Continue-operand .operand)) (one _ (nx .0) _ (c .in-Continue-seen .seen) (mark Comma) (nx .1) (nx .2) (c .in-Comma .is) refl refl)
+    (then _ _ _ (fieldItems fs (c .in-Continue-field .field)) (operandItems ls (c .in-Continue-operand .operand)) (c .in-Continue-field .ensures tt) (c .in-Continue-operand .ensures tt))) in
     search needs
 
 pub returns-in-Continue-push : need.returns-in-Continue-push
@@ -92,6 +92,6 @@ returns-in-Continue-push t c =
     let o = c .in-Continue-operand .operand in
     more-binders fs ls f o (coming (c .args .cur .now)) (coming (c .read-operand .last .cur)) (coming (c .read-more-binders .last .cur)) (vec-items (c .args .out .now)) (vec-items (c .push .last .self)) (vec-items (c .read-more-binders .last .out))
     (then _ _ _ (mark Comma ∷ []) (fieldItems fs f ++ operandItems ls o) (one _ (nx .0) _ (c .in-Continue-seen .seen) (mark Comma) (nx .1) (nx .2) (c .in-Comma .is) refl refl)
-      (then _ _ _ (fieldItems fs f) (operandItems ls o) (c .in-Continue-field .ensures tt) (c .in-Continue-operand .ensures tt)))
+    (then _ _ _ (fieldItems fs f) (operandItems ls o) (c .in-Continue-field .ensures tt) (c .in-Continue-operand .ensures tt)))
     (c .in-Continue-push .ensures tt .items) (c .read-more-binders .result)
     (move-sets (c .with .result) (withField fs f) (c .with-operand .result) (withOperand ls o) (coming (c .read-operand .last .cur)) (coming (c .read-more-binders .last .cur)) (vec-items (c .push .last .self)) (vec-items (c .read-more-binders .last .out)) (c .read-more-binders .result) (c .with .ensures) (c .with-operand .ensures) (c .read-more-binders .ensures))

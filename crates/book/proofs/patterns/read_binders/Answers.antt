@@ -55,8 +55,8 @@ returns-in-Break-operand c =
     let f = c .in-Named .field in
     let p = err-from-errBy (c .from-residual-in-Break-operand .result) (c .from-residual-in-Break-operand .ensures .1) in
     rw (p .1, p .2) (within Operand (List Binder × Bool) (operandItems noLetters) (any Operand) bindersClosed (any (List Binder × Bool)) (item (Named f) (names noFields f) ∷ []) (λ o. (binder f o ∷ [], false)) (λ _. mark CloseSquare ∷ []) (λ _. refl)
-      (λ y u v _ q. let i = inv-first-operand f (y .0) (y .1) u v q in (i .0, i .1, closed (i .0) (i .1), i .2)) _ _ _ _
-      (one _ (nx .0) _ (c .in-Continue-seen .seen) (item (Named f) (names noFields f)) (nx .1) (nx .2) (c .in-Named .is) refl (none-named f)) (move-operand (c .none .result) noLetters _ _ _ (c .none .ensures) (c .in-Break-operand .ensures tt)))
+    (λ y u v _ q. let i = inv-first-operand f (y .0) (y .1) u v q in (i .0, i .1, closed (i .0) (i .1), i .2)) _ _ _ _
+    (one _ (nx .0) _ (c .in-Continue-seen .seen) (item (Named f) (names noFields f)) (nx .1) (nx .2) (c .in-Named .is) refl (none-named f)) (move-operand (c .none .result) noLetters _ _ _ (c .none .ensures) (c .in-Break-operand .ensures tt)))
 
 pub returns-in-Continue-push : need.returns-in-Continue-push
 returns-in-Continue-push c =
@@ -65,7 +65,7 @@ returns-in-Continue-push c =
     let o = c .in-Continue-operand .operand in
     first-binders f o (coming (c .args .cur .now)) (coming (c .read-operand .last .cur)) (coming (c .read-more-binders .last .cur)) (vec-items (c .args .out .now)) (vec-items (c .push .last .self)) (vec-items (c .read-more-binders .last .out))
     (then _ _ _ (item (Named f) (names noFields f) ∷ []) (operandItems noLetters o) (one _ (nx .0) _ (c .in-Continue-seen .seen) (item (Named f) (names noFields f)) (nx .1) (nx .2) (c .in-Named .is) refl (none-named f))
-      (alike _ _ (operandItems (c .none .result) o) (operandItems noLetters o) (ap (λ s. operandItems s o) (c .none .ensures)) (c .in-Continue-operand .ensures tt)))
+    (alike _ _ (operandItems (c .none .result) o) (operandItems noLetters o) (ap (λ s. operandItems s o) (c .none .ensures)) (c .in-Continue-operand .ensures tt)))
     (c .in-Continue-push .ensures tt .items) (c .read-more-binders .result)
     (move-sets (c .with .result) (withField noFields f) (c .with-operand .result) (withOperand noLetters o) (coming (c .read-operand .last .cur)) (coming (c .read-more-binders .last .cur)) (vec-items (c .push .last .self)) (vec-items (c .read-more-binders .last .out)) (c .read-more-binders .result)
-      (c .with .ensures ∙ ap (λ s. withField s f) (c .none-in-Named .ensures)) (c .with-operand .ensures ∙ ap (λ s. withOperand s o) (c .none-in-Named-2 .ensures)) (c .read-more-binders .ensures))
+    (c .with .ensures ∙ ap (λ s. withField s f) (c .none-in-Named .ensures)) (c .with-operand .ensures ∙ ap (λ s. withOperand s o) (c .none-in-Named-2 .ensures)) (c .read-more-binders .ensures))

@@ -31,7 +31,7 @@ returns-in-Break-act c =
     let p = err-from-errBy (c .from-residual .result) (c .from-residual .ensures .1) in
     rw (p .1, p .2) (record {
       told = λ rule nodes around from r. let s : Spot = spot rule nodes around b in
-        part-of held-pattern.Pattern Pattern held.Rule Rule purePattern pureRule (patternItems b) (ruleItems s) (item (Duty k) (started s) ∷ []) (λ x. duty k x never) (λ _. mark Before ∷ patternItems b never) (λ _. refl) (inv-act s k) from _ (coming (c .read-pattern .last .cur)) (coming (c .read-pattern .last .cur)) r (c .in-Break-act .field-0 .0) (c .in-Break-act .ensures tt);
+          part-of held-pattern.Pattern Pattern held.Rule Rule purePattern pureRule (patternItems b) (ruleItems s) (item (Duty k) (started s) ∷ []) (λ x. duty k x never) (λ _. mark Before ∷ patternItems b never) (λ _. refl) (inv-act s k) from _ (coming (c .read-pattern .last .cur)) (coming (c .read-pattern .last .cur)) r (c .in-Break-act .field-0 .0) (c .in-Break-act .ensures tt);
       alone = tt;
     })
 
@@ -43,8 +43,8 @@ returns-in-Break-expect c =
     let p = err-from-errBy (c .from-residual-in-Break-expect .result) (c .from-residual-in-Break-expect .ensures .1) in
     rw (p .1, p .2) (record {
       told = λ rule nodes around from r. let s : Spot = spot rule nodes around b in
-        inside (Unit {0}) Rule (expectedItems expected.Before) (ruleItems s) (item (Duty k) (started s) ∷ patternItems b act) (λ _. duty k act never) (λ _. patternItems b never) (λ _. refl) (inv-before s k act) from _ _ _
-        (then _ _ _ (item (Duty k) (started s) ∷ []) (patternItems b act) r (c .in-Continue-act .ensures tt)) (c .in-Break-expect .ensures tt);
+          inside (Unit {0}) Rule (expectedItems expected.Before) (ruleItems s) (item (Duty k) (started s) ∷ patternItems b act) (λ _. duty k act never) (λ _. patternItems b never) (λ _. refl) (inv-before s k act) from _ _ _
+          (then _ _ _ (item (Duty k) (started s) ∷ []) (patternItems b act) r (c .in-Continue-act .ensures tt)) (c .in-Break-expect .ensures tt);
       alone = tt;
     })
 
@@ -57,8 +57,8 @@ returns-in-Break-deadline c =
     let p = err-from-errBy (c .from-residual-in-Break-deadline .result) (c .from-residual-in-Break-deadline .ensures .1) in
     rw (p .1, p .2) (record {
       told = λ rule nodes around from r. let s : Spot = spot rule nodes around b in
-        part-of held-pattern.Pattern Pattern held.Rule Rule purePattern pureRule (patternItems b) (ruleItems s) (item (Duty k) (started s) ∷ (A ++ (mark Before ∷ []))) (λ x. duty k act x) (λ _. []) (λ x. ap (λ l. item (Duty k) (started s) ∷ l) (eq-last A (mark Before) (patternItems b x))) (inv-deadline s k act) from _ (coming (c .read-pattern-2 .last .cur)) (coming (c .read-pattern-2 .last .cur))
-        (then _ _ _ (item (Duty k) (started s) ∷ []) (A ++ (mark Before ∷ [])) r (then _ _ _ A (mark Before ∷ []) (c .in-Continue-act .ensures tt) (c .in-Continue-expect .ensures tt))) (c .in-Break-deadline .field-0 .0) (c .in-Break-deadline .ensures tt);
+          part-of held-pattern.Pattern Pattern held.Rule Rule purePattern pureRule (patternItems b) (ruleItems s) (item (Duty k) (started s) ∷ (A ++ (mark Before ∷ []))) (λ x. duty k act x) (λ _. []) (λ x. ap (λ l. item (Duty k) (started s) ∷ l) (eq-last A (mark Before) (patternItems b x))) (inv-deadline s k act) from _ (coming (c .read-pattern-2 .last .cur)) (coming (c .read-pattern-2 .last .cur))
+          (then _ _ _ (item (Duty k) (started s) ∷ []) (A ++ (mark Before ∷ [])) r (then _ _ _ A (mark Before ∷ []) (c .in-Continue-act .ensures tt) (c .in-Continue-expect .ensures tt))) (c .in-Break-deadline .field-0 .0) (c .in-Break-deadline .ensures tt);
       alone = tt;
     })
 
@@ -70,6 +70,6 @@ returns c =
     let D = patternItems b (purePattern (c .in-Continue-deadline .deadline)) in
     record {
       told = λ rule nodes around from r. let s : Spot = spot rule nodes around b in
-        then _ _ _ (item (Duty k) (started s) ∷ []) (A ++ (mark Before ∷ D)) r (then _ _ _ A (mark Before ∷ D) (c .in-Continue-act .ensures tt) (then _ _ _ (mark Before ∷ []) D (c .in-Continue-expect .ensures tt) (c .in-Continue-deadline .ensures tt)));
+          then _ _ _ (item (Duty k) (started s) ∷ []) (A ++ (mark Before ∷ D)) r (then _ _ _ A (mark Before ∷ D) (c .in-Continue-act .ensures tt) (then _ _ _ (mark Before ∷ []) D (c .in-Continue-expect .ensures tt) (c .in-Continue-deadline .ensures tt)));
       alone = refl;
     }

@@ -33,8 +33,8 @@ returns-in-Break-rule t c =
     let here : spot (k + 1) n 0 (c .none-letters .result) ≡ top (k + 1) n = (λ i. spot (k + 1) n 0 (c .none-letters .ensures i)) in
     let p = err-from-errBy (c .from-residual .result) (c .from-residual .ensures .1) in
     rw (p .1, p .2) (move-rules k n from (coming (c .args .cur .now)) (Err (c .in-Break-rule .field-0 .0)) (vec-items (c .args .out .now)) _ stays
-      (rule-failed k n from (coming (c .read-rule .last .cur)) (vec-items (c .args .out .now)) _ (move-goes (coming (c .args .cur .now)) from (sym stays) (goes-on (ahead (c .args .cur .now)) (a .next) (a .rest) (a .split) (a .more refl)))
-        (c .in-Break-rule .field-0 .0) (move-told from (coming (c .read-rule .last .cur)) (c .in-Break-rule .field-0 .0) _ (top (k + 1) n) here (c .in-Break-rule .ensures tt .told))))
+    (rule-failed k n from (coming (c .read-rule .last .cur)) (vec-items (c .args .out .now)) _ (move-goes (coming (c .args .cur .now)) from (sym stays) (goes-on (ahead (c .args .cur .now)) (a .next) (a .rest) (a .split) (a .more refl)))
+    (c .in-Break-rule .field-0 .0) (move-told from (coming (c .read-rule .last .cur)) (c .in-Break-rule .field-0 .0) _ (top (k + 1) n) here (c .in-Break-rule .ensures tt .told))))
 
 pub returns-in-Break-expect : need.returns-in-Break-expect
 returns-in-Break-expect t c =
@@ -46,7 +46,7 @@ returns-in-Break-expect t c =
     let here : spot (k + 1) n 0 (c .none-letters .result) ≡ top (k + 1) n = (λ i. spot (k + 1) n 0 (c .none-letters .ensures i)) in
     let p = err-from-errBy (c .from-residual-in-Break-expect .result) (c .from-residual-in-Break-expect .ensures .1) in
     rw (p .1, p .2) (move-fails k n from (coming (c .args .cur .now)) _ _ (ap meanings (a .stays))
-      (semicolon-fails k n r from (coming (c .read-rule .last .cur)) _ _ (move-reads from (coming (c .read-rule .last .cur)) r _ (top (k + 1) n) here (c .in-Continue-rule .ensures tt .told)) (c .in-Break-expect .ensures tt)))
+    (semicolon-fails k n r from (coming (c .read-rule .last .cur)) _ _ (move-reads from (coming (c .read-rule .last .cur)) r _ (top (k + 1) n) here (c .in-Continue-rule .ensures tt .told)) (c .in-Break-expect .ensures tt)))
 
 pub returns : need.returns
 returns t c =
@@ -58,6 +58,6 @@ returns t c =
     let told = c .in-Continue-rule .ensures tt in
     let here : spot (k + 1) n 0 (c .none-letters .result) ≡ top (k + 1) n = (λ i. spot (k + 1) n 0 (c .none-letters .ensures i)) in
     move-rules k n from (coming (c .args .cur .now)) (c .read-rules .result) (vec-items (c .args .out .now)) (vec-items (c .read-rules .last .out)) (ap meanings (a .stays))
-      (more-rules k n (c .read-rule .last .nodes) x from (coming (c .expect .last .cur)) (vec-items (c .args .out .now)) (vec-items (c .push .last .self)) (vec-items (c .read-rules .last .out)) (told .counted .0)
-        (then _ _ _ (ruleItems (top (k + 1) n) (pureRule x)) (mark Semicolon ∷ []) (move-reads from (coming (c .read-rule .last .cur)) (pureRule x) _ (top (k + 1) n) here (told .told)) (c .in-Continue-expect .ensures tt))
-        (c .in-Continue-push .ensures tt .items) (c .read-rules .result) (c .read-rules .ensures))
+    (more-rules k n (c .read-rule .last .nodes) x from (coming (c .expect .last .cur)) (vec-items (c .args .out .now)) (vec-items (c .push .last .self)) (vec-items (c .read-rules .last .out)) (told .counted .0)
+    (then _ _ _ (ruleItems (top (k + 1) n) (pureRule x)) (mark Semicolon ∷ []) (move-reads from (coming (c .read-rule .last .cur)) (pureRule x) _ (top (k + 1) n) here (told .told)) (c .in-Continue-expect .ensures tt))
+    (c .in-Continue-push .ensures tt .items) (c .read-rules .result) (c .read-rules .ensures))

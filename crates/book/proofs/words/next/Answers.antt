@@ -3,7 +3,7 @@ use mathlib.Core.Bool.{false}
 use mathlib.Core.List.{_∷_}
 use Prim.Native.Nat.{ℕ}
 use native.Mathlib.Omega.{arith}
-use Rattle.tokens.specs.Text.{Stretch, word, number, symbol, stray, end} 
+use Rattle.tokens.specs.Text.{Stretch, word, number, symbol, stray, end}
 use Rattle.tokens.specs.Text as text
 use Rattle.tokens.specs.Tokens.{stretchOf}
 use Rattle.book.specs.declared.terminals.Terminal.{Terminal}
@@ -23,10 +23,11 @@ pub returns-in-Ok : need.returns-in-Ok
 returns-in-Ok c =
     let nx = c .next-found .ensures in
     let e = c .in-Ok .ensures tt in
-    let found = c .next-found .result in
-    (meanings (nx .rest),
-     ap meanings (nx .split) ∙ ap (λ g. lexeme (found .place) g ∷ meanings (nx .rest)) (sym e),
-     λ f. ap meanings (nx .goes (goes (stretchOf (found .token)) (c .in-Ok .terminal) e f)))
+    let found = c .next-found .result in (
+      meanings (nx .rest),
+      ap meanings (nx .split) ∙ ap (λ g. lexeme (found .place) g ∷ meanings (nx .rest)) (sym e),
+      λ f. ap meanings (nx .goes (goes (stretchOf (found .token)) (c .in-Ok .terminal) e f)),
+    )
 
 pub returns-in-Err : need.returns-in-Err
 returns-in-Err c =

@@ -14,4 +14,4 @@ nothing : (rs : List Rule) → rs ≡ [] → Kept rs × Written rs
 nothing rs e = (subst Kept (sym e) refl, subst Written (sym e) ∣ ([], record { short = omega arith; written = refl; sound = (refl, tt) }) ∣₁)
 
 pub ghost-result : need.ghost-result
-ghost-result c = let n = nothing (vec-items (c .new .result)) (c .new .ensures .items) in (n .0, (n .1, tt))
+ghost-result c = let n = nothing (vec-items (c .new-rules .result)) (c .new-rules .ensures .items) in (n .0, (n .1, tt))
