@@ -164,7 +164,11 @@ fn read_conditions(
 }
 
 // A pattern, where `bound` are bound from outside.
-pub(crate) fn read_pattern(heap: Global, cur: &mut Cursor<'_>, bound: Letters) -> Result<Pattern, Refusal>
+pub(crate) fn read_pattern(
+    heap: Global,
+    cur: &mut Cursor<'_>,
+    bound: Letters,
+) -> Result<Pattern, Refusal>
     ensures { λ r. ⌜ ToldBy Pattern PatternMeant purePattern (patternItems bound) (coming (now (cur .entry))) r (coming (now (cur .exit))) ⌝ }
 {
     let seen = next(cur)?;

@@ -172,7 +172,12 @@ pub(crate) fn matched(
 }
 
 // The deadline or end is tested first.
-pub(crate) fn effect_of(act: &Pattern, end: &Pattern, line: &Line, letters: &[Option<u32>; 8]) -> Effect
+pub(crate) fn effect_of(
+    act: &Pattern,
+    end: &Pattern,
+    line: &Line,
+    letters: &[Option<u32>; 8],
+) -> Effect
     requires act { ⌜ patternNumber (purePattern (now act)) ≤ 9999999 ⌝ }
     requires end { ⌜ patternNumber (purePattern (now end)) ≤ 9999999 ⌝ }
     ensures { λ r. ⌜ r ≡ effect (purePattern (now (act .entry))) (purePattern (now (end .entry))) (now (letters .entry)) (now (line .entry)) ⌝ }
