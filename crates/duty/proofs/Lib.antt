@@ -1,12 +1,12 @@
-mod Joins
+pub mod Joins
 pub mod Runs
 pub mod Sheets
-mod Finals
+pub mod Finals
 pub mod StepsShown
 mod WorkedShown
 pub mod Listed
 pub mod FactsShown
-mod LettersShown
+pub mod LettersShown
 mod Matches
 mod Written
 mod Splits
@@ -14,5 +14,5 @@ mod Opened
 mod Ways
 mod ByKind
 mod Loops
-mod Books
+pub mod Books
 mod Passing

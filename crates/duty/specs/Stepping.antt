@@ -6,6 +6,7 @@ use Prim.Native.Nat.{ℕ, min}
 use lib.ListN.{length}
 use Rattle.feed.specs.declared.lines.Line.{Line}
 use Rattle.book.specs.Rules.{Rule, duty, trigger, bracket}
+use Rattle.book.specs.declared.terms.TriggerKind.the-variants.{Each, Once}
 use Rattle.book.specs.declared.terms.BracketKind.the-variants.{And}
 use Rattle.duty.specs.Matching.{Bindings, effect}
 use Rattle.duty.specs.Sheet.{entry}
@@ -86,13 +87,19 @@ Closes s p m left count d a d′ =
     (n lev : ℕ) (f : Bindings) (ds : List (Open s)) → left ≡ dutiesOutcome (kept ds)
     → Closed s n lev p (watch f (marks m) ds) (eachStep f m (start s) ds) count d d′ a
 
--- a duty that the line passes by, under any letters
+-- a rule that the line passes by, whatever is open of it and whichever letters are bound; an `each` is not told of
 abbrev pub PassedBy : Rule → Line → Type 0
 PassedBy (duty k p q) l = (f : Bindings) → effect p q f l ≡ Passes
-PassedBy (trigger k p q s) l = ⊥
-PassedBy (bracket k r s) l = ⊥
+PassedBy (trigger Once p q s) l = ((f : Bindings) → effect p q f l ≡ Passes) × PassedBy s l
+PassedBy (trigger Each p q s) l = ⊥
+PassedBy (bracket k r s) l = PassedBy r l × PassedBy s l
 
-abbrev pub KeepsAll : Place → List Entry → Draft → Outcome → Draft → Type 0
-KeepsAll p es d a d′ =
-    (r : Rule) (l : Line) → PassedBy r l → (lev : ℕ) (ds : List (Open r)) → es ≡ together (entries r (p .node) lev) ds
-    → CameAll r (p .node) (p .level) (kept ds) d d′ a
+-- of duties that stay as they are
+abbrev pub someLeft : List Entry → Outcome
+someLeft [] = Satisfied
+someLeft (e ∷ es) = StillOpen
+
+-- no entries, or the first at this level
+abbrev pub AtLevel : ℕ → List Entry → Type 0
+AtLevel lev [] = Unit {0}
+AtLevel lev (e ∷ es) = e .level ≡ lev

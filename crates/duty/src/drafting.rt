@@ -22,21 +22,28 @@ impl Draft {
         Ok(Draft { entries, count: 0 })
     }
 
-    // One more entry, of the rule at this place.
-    pub(crate) fn write(&mut self, place: Place, mark: bool, letters: &[Option<u32>; 8])
-        ensures { λ _. ⌜ Adds (now (self .entry)) (now (self .exit)) (entry (place .node) (place .level) mark (now (letters .entry)) ∷ []) ⌝ }
+    // One more entry.
+    pub(crate) fn push(&mut self, entry: Entry)
+        ensures { λ _. ⌜ Adds (now (self .entry)) (now (self .exit)) (entry ∷ []) ⌝ }
     {
         if self.count < PLACES {
-            self.entries.push_reserved(Entry {
-                node: place.node,
-                level: place.level,
-                mark,
-                letters: *letters,
-            });
+            self.entries.push_reserved(entry);
             self.count += 1;
         } else {
             self.count = PLACES + 1;
         }
+    }
+
+    // An entry of the rule at this place.
+    pub(crate) fn write(&mut self, place: Place, mark: bool, letters: &[Option<u32>; 8])
+        ensures { λ _. ⌜ Adds (now (self .entry)) (now (self .exit)) (entry (place .node) (place .level) mark (now (letters .entry)) ∷ []) ⌝ }
+    {
+        self.push(Entry {
+            letters: *letters,
+            node: place.node,
+            level: place.level,
+            mark,
+        });
     }
 
     // Back to an earlier count.

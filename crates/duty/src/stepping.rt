@@ -23,6 +23,7 @@ use crate::steps::each_effect;
 use crate::steps::ends_each;
 use crate::steps::keep_duties;
 use crate::steps::passed_by;
+use crate::steps::stands_at;
 use crate::steps::step_duty;
 use crate::steps::step_waiting;
 use book::rules::Pattern;
@@ -111,7 +112,8 @@ fn step_each(
     }
 }
 
-// The duties of an `each`, oldest first: satisfied when none is left. On an idle line plain duties are only copied.
+// The duties of an `each`, oldest first: satisfied when none is left. On an idle line they
+// are only copied.
 fn step_duties(
     duty: &Rule,
     place: Place,
@@ -122,8 +124,8 @@ fn step_duties(
     requires { ⌜ Placed place (pureRule (now duty)) ⌝ }
     ensures { λ r. ⌜ DutiesStepAt (pureRule (now (duty .entry))) place (now (below .entry)) (now (line .entry)) (now (draft .entry)) r (now (draft .exit)) ⌝ }
 {
-    if passed_by(duty, line) {
-        return keep_duties(place, below, draft);
+    if passed_by(duty, line) && stands_at(below, place.level) {
+        return keep_duties(below, draft);
     }
     let mut left = Outcome::Satisfied;
     let mut at = 0;

@@ -6,10 +6,12 @@ ghost use Rattle.book.specs.Rules.{duty as dutyRule, trigger};
 ghost use Rattle.book.specs.Sizes.{patternNumber};
 ghost use Rattle.book.specs.Trees.{purePattern, pureRule};
 ghost use Rattle.book.specs.declared.terms.TriggerKind.the-variants.{Once};
-ghost use Rattle.duty.specs.Matching.{effect as effectAt};
+ghost use Rattle.duty.specs.declared.matching.Effect.the-variants.{Passes};
+ghost use Rattle.duty.specs.Matching.{Bindings, effect as effectAt};
 ghost use Rattle.duty.specs.Open.{start as starting, dutyStep, onceStep, eachEffect};
+ghost use Rattle.duty.specs.Drafts.{Adds};
 ghost use Rattle.duty.specs.Places.{Placed};
-ghost use Rattle.duty.specs.Stepping.{Came, Closes, KeepsAll, PassedBy, marks};
+ghost use Rattle.duty.specs.Stepping.{AtLevel, Came, Closes, PassedBy, marks, someLeft};
 use crate::drafts::Draft;
 use crate::entries::Entry;
 use crate::matching::Effect;
@@ -21,6 +23,7 @@ use crate::places::Place;
 use book::rules::Pattern;
 use book::rules::Rule;
 use book::terms::DutyKind;
+use book::terms::TriggerKind;
 use feed::lines::Line;
 
 // A duty under these letters: the deadline before the act.
@@ -135,22 +138,41 @@ pub(crate) fn close_each(
     }
 }
 
-// A duty that this line passes by, whatever its letters.
+// Neither pattern matches this line, whichever letters are bound.
+fn neither_matches(act: &Pattern, end: &Pattern, line: &Line) -> bool
+    ensures { λ r. ⌜ (T r → (f : Bindings) → effectAt (purePattern (now (act .entry))) (purePattern (now (end .entry))) f (now (line .entry)) ≡ Passes) ⌝ }
+{
+    never_matches(end, line) && never_matches(act, line)
+}
+
+// A rule that this line passes by, whatever is open of it.
 pub(crate) fn passed_by(rule: &Rule, line: &Line) -> bool
     ensures { λ r. ⌜ (T r → PassedBy (pureRule (now (rule .entry))) (now (line .entry))) ⌝ }
 {
     match rule {
-        Rule::Duty(_, act, deadline) => never_matches(deadline, line) && never_matches(act, line),
-        _ => false,
+        Rule::Duty(_, act, deadline) => neither_matches(act, deadline, line),
+        Rule::Trigger(kind, start, end, duty) => match kind {
+            TriggerKind::Once => neither_matches(start, end, line) && passed_by(duty, line),
+            TriggerKind::Each => false,
+        },
+        Rule::Bracket(_, first, second) => passed_by(first, line) && passed_by(second, line),
     }
 }
 
-// Duties that the line passes by stay as they are.
-pub(crate) fn keep_duties(place: Place, below: &[Entry], draft: &mut Draft) -> Outcome
-    ensures { λ r. ⌜ KeepsAll place (now (below .entry)) (now (draft .entry)) r (now (draft .exit)) ⌝ }
+// The entries stand at this level already.
+pub(crate) fn stands_at(below: &[Entry], level: u8) -> bool
+    ensures { λ r. ⌜ (T r → AtLevel level (now (below .entry))) ⌝ }
+{
+    below.is_empty() || below[0].level == level
+}
+
+// Duties that a line passes by stay as they are.
+pub(crate) fn keep_duties(below: &[Entry], draft: &mut Draft) -> Outcome
+    ensures answer { λ r. ⌜ r ≡ someLeft (now (below .entry)) ⌝ }
+    ensures written { λ _. ⌜ Adds (now (draft .entry)) (now (draft .exit)) (now (below .entry)) ⌝ }
 {
     for entry in below {
-        draft.write(place, false, &entry.letters);
+        draft.push(*entry);
     }
     if below.is_empty() {
         Outcome::Satisfied

@@ -14,7 +14,7 @@ use Rattle.duty.specs.Groups.{blank}
 use Rattle.duty.specs.Stepping.{StepsAt}
 use Rattle.duty.proofs.ByKind.{some-entry, duty-step, once-waits, once-runs, else-second, else-first, else-met, else-breached, else-open, and-two, and-left, and-right, left-part, right-part, both-stepped, both-open, both-breached, both-met, one-left, one-right, each-watched, each-breached, each-closed}
 use Rattle.duty.specs.declared.outcomes.Outcome.the-variants.{Satisfied, Breached, Open as StillOpen}
-use Rattle.duty.proofs.Passing.{all-came}
+use Rattle.duty.proofs.Passing.{all-kept}
 use Rattle.duty.proofs.Loops as loops
 use Rattle.duty.proofs.stepping.+step_and+step_both+step_duties+step_each+step_else+step_once+step_rule.Needs as need
 use Rattle.duty.proofs.stepping.+step_and+step_both+step_duties+step_each+step_else+step_once+step_rule.Needs.{step-duties-in-Satisfied, step-duties-in-Open}
@@ -116,11 +116,9 @@ step-both-returns-in-Right t c lev f o o′ e =
     one-right r s p (c .below .result) (c .below-2 .result) l f o o′ (c .args .draft .now) d₁ d₂ d₃ (c .step-rule-a .result) (c .step-rule-b .result) w (c .sides-of .result) (c .sides-of .ensures) (c .cut-in-Right .last .self) (c .cut-in-Right .ensures) (c .in-Right .is) (c .inside-in-Right .result) (c .step-rule-in-Right .last .draft) (c .step-rule-in-Right .result) there (c .inside-in-Right .ensures .level)
     (right-part r s p g m (c .group-len-n .ensures .within) (c .group-len-n .ensures .ends) lev f o o′ e l (c .inside-in-Right .result) (c .cut-in-Right .last .self) (c .step-rule-in-Right .last .draft) (c .step-rule-in-Right .result) there (c .step-rule-in-Right .ensures))
 
-pub step-duties-returns-then-passed-by : need.step-duties-returns-then-passed-by
-step-duties-returns-then-passed-by t c lev ds e =
-    let r = pureRule (c .args .duty .now) in
-    let h = c .if-passed-by .ensures tt tt in
-    all-came r (c .args .place .node) (c .args .place .level) (c .args .line .now) (c .args .draft .now) (c .keep-duties .last .draft) (c .keep-duties .result) h ds (c .keep-duties .ensures r (c .args .line .now) h lev ds e)
+pub step-duties-returns-then-stands-at : need.step-duties-returns-then-stands-at
+step-duties-returns-then-stands-at t c =
+    all-kept (pureRule (c .args .duty .now)) (c .args .place .node) (c .args .place .level) (c .args .line .now) (c .args .below .now) (c .args .draft .now) (c .keep-duties .last .draft) (c .keep-duties .result) (c .if-passed-by .ensures tt tt) (c .if-stands-at .ensures tt tt) (c .keep-duties .ensures .answer) (c .keep-duties .ensures .written)
 
 pub step-duties-loop-at-holds : need.step-duties-loop-at-holds
 step-duties-loop-at-holds t c = (omega arith, loops.starts (pureRule (c .args .duty .now)) (c .args .place) (c .args .below .now) (c .args .line .now) (c .args .draft .now))
