@@ -112,8 +112,8 @@ def fixed():
     return [t.encode('latin-1') for t in out]
 
 
-def randoms(count, seed):
-    rng = random.Random(seed)
+def randoms(count, number):
+    rng = random.Random(number)
 
     def pattern(bound):
         if rng.random() < .2:
