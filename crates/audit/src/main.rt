@@ -1,4 +1,6 @@
 // The program `audit`: reads its arguments and files, and prints what the libraries answer.
+#![tactic(auto)]
+
 mod auditing;
 mod books;
 mod files;

@@ -1,6 +1,8 @@
 // Runs both auditors of one call on each case of the input, and prints their answers and pages.
 //
 // A case is a book text, a log text and its turns, a line for each; `--` ends the first two, and `==` the case.
+#![tactic(auto)]
+
 mod answers;
 mod turns;
 

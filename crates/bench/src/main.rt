@@ -1,6 +1,8 @@
 // How long a line takes: `bench time` prints nanoseconds per line and per open entry, for books of 1, 4 and 16
 // rules with an almost empty and an almost full sheet, and microseconds to read a large book. Run with no
 // argument it prints the sizes alone.
+#![tactic(auto)]
+
 use anyhow::anyhow;
 use book::whole::read_book;
 use duty::standings::Standing;

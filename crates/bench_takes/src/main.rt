@@ -2,6 +2,8 @@
 // from a text recording, reading included: for books of 1, 4 and 16 rules with an almost empty and an almost full sheet, and
 // for books whose deadline names no kind; and microseconds to read a large book. Run with no argument it prints the
 // sizes alone.
+#![tactic(auto)]
+
 use anyhow::anyhow;
 use auditor::answers::Stop;
 use auditor::auditors::Auditor;

@@ -1,4 +1,6 @@
 // Books of duty rules: what they are written as, and the reader that accepts a text exactly when it is one.
+#![tactic(auto)]
+
 pub mod book;
 pub mod exact;
 mod openings;

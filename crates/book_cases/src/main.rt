@@ -1,4 +1,6 @@
 // Answers each text of the input by its book's counts, or by its first fault: the texts are parted by the byte 30.
+#![tactic(auto)]
+
 ghost use Rattle.std.specs.Prelude.{◌≤◌, length};
 
 use book::refusals::{Fault, Refusal};

@@ -1,4 +1,6 @@
 // What a duty rule says of a log, and how what is open of it steps by one line.
+#![tactic(auto)]
+
 mod drafting;
 mod drafts;
 pub mod entries;

@@ -1,4 +1,6 @@
 // Log lines, their two encodings, and feeds: anything that means a list of waiting items.
+#![tactic(auto)]
+
 pub mod cursors;
 pub mod faults;
 pub mod feeds;

@@ -1,4 +1,6 @@
 // Runs feeds on tables of cases, and prints each item as its numbers.
+#![tactic(auto)]
+
 use anyhow::anyhow;
 use feed::cursors::InputFeed;
 use feed::faults::Item;

@@ -1,4 +1,6 @@
 // The two pages of an auditor, written into a caller's bytes.
+#![tactic(auto)]
+
 mod columns;
 pub mod laws;
 mod lengths;

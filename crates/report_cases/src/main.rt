@@ -1,4 +1,6 @@
 // Reports on a joined feed of text and packed items, and prints the report's rows.
+#![tactic(auto)]
+
 use anyhow::anyhow;
 use feed::cursors::InputFeed;
 use feed::feeds::Feed;

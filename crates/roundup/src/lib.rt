@@ -1,4 +1,6 @@
 // Kinds of results that can be joined, and one round-up over them all.
+#![tactic(auto)]
+
 pub mod joining;
 pub mod kinds;
 pub mod rounding;

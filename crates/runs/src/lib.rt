@@ -1,4 +1,6 @@
 // Runs of calls on two auditors, and the law over them.
+#![tactic(auto)]
+
 pub mod calls;
 pub mod counts;
 pub mod observers;

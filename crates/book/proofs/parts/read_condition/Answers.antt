@@ -19,44 +19,44 @@ use Rattle.book.proofs.Compose.{passed_then, with-token, flat}
 use Rattle.book.proofs.Sums.{some_sum, condition, inv_left, inv_sign, inv_right}
 use Rattle.book.proofs.parts.read_condition.Goals as goal
 
-pub returns-in-err-left : goal.returns-in-err-left
-returns-in-err-left c =
+pub returns-in_err-left : goal.returns-in_err-left
+returns-in_err-left c =
     let k = c.args.k in
     let s = c.args.bound in
-    let p = err_from_is_err_and c.from-residual.result c.from-residual.ensures.1 in
-    rw (p.1, p.2) (within Sum Condition (sum_items k s) SumStops (condition_items k s) ConditionStops [] (λ x. condition x AtMost some_sum) (λ _. mark (Compare AtMost) ∷ sum_items k s some_sum) (λ x. refl) (inv_left k s) _ _ _ _ (start _ _ refl) c.in-err-left.ensures)
+    let p = err_from_is_err_and c.from_residual.result c.from_residual.ensures.1 in
+    rw (p.1, p.2) (within Sum Condition (sum_items k s) SumStops (condition_items k s) ConditionStops [] (λ x. condition x AtMost some_sum) (λ _. mark (Compare AtMost) ∷ sum_items k s some_sum) (λ x. refl) (inv_left k s) _ _ _ _ (start _ _ refl) c.in_err-left.ensures)
 
-pub returns-in-default : goal.returns-in-default
-returns-in-default c =
+pub returns-in_default : goal.returns-in_default
+returns-in_default c =
     let k = c.args.k in
     let s = c.args.bound in
-    let a = c.in-ok-left.left in
-    let told = c.in-ok-left.ensures in
-    wrong Condition (condition_items k s) ConditionStops (sum_items k s a) (condition a AtMost some_sum) (mark (Compare AtMost) ∷ sum_items k s some_sum) refl _ _ told.0.rest c.in-ok-left.compare told.0.reads refl
-    (λ y u more f e. inv_sign k s a c.in-ok-left.compare.terminal told.1 c.in-default.not-Compare y u more e)
+    let a = c.in_ok-left.left in
+    let told = c.in_ok-left.ensures in
+    wrong Condition (condition_items k s) ConditionStops (sum_items k s a) (condition a AtMost some_sum) (mark (Compare AtMost) ∷ sum_items k s some_sum) refl _ _ told.0.rest c.in_ok-left.compare told.0.reads refl
+    (λ y u more f e. inv_sign k s a c.in_ok-left.compare.terminal told.1 c.in_default.not-Compare y u more e)
 
-pub returns-in-err-right : goal.returns-in-err-right
-returns-in-err-right c =
+pub returns-in_err-right : goal.returns-in_err-right
+returns-in_err-right c =
     let k = c.args.k in
     let s = c.args.bound in
-    let a = c.in-ok-left.left in
+    let a = c.in_ok-left.left in
     let g = c.in-Compare.sign in
     let A = sum_items k s a in
-    let p = err_from_is_err_and c.from-residual-in-err-right.result c.from-residual-in-err-right.ensures.1 in
+    let p = err_from_is_err_and c.from_residual-in_err-right.result c.from_residual-in_err-right.ensures.1 in
     rw (p.1, p.2) (within Sum Condition (sum_items k s) SumStops (condition_items k s) ConditionStops (A ++ (mark (Compare g) ∷ [])) (λ x. condition a g x) (λ _. [])
     (λ x. ap (λ l. A ++ (mark (Compare g) ∷ l)) (sym (append-nil (sum_items k s x))) ∙ sym (append_assoc A (mark (Compare g) ∷ []) (sum_items k s x ++ [])))
     (λ y u v f e. inv_right k s a g y u v f (e ∙ flat A (mark (Compare g)) [] v)) _ _ _ _
-    (with-token _ _ A c.in-ok-left.compare (mark (Compare g)) c.in-ok-left.ensures.0 c.in-Compare.is refl refl) c.in-err-right.ensures)
+    (with-token _ _ A c.in_ok-left.compare (mark (Compare g)) c.in_ok-left.ensures.0 c.in-Compare.is refl refl) c.in_err-right.ensures)
 
 pub returns : goal.returns
 returns c =
     let k = c.args.k in
     let s = c.args.bound in
     let g = c.in-Compare.sign in
-    let A = sum_items k s c.in-ok-left.left in
-    let B = sum_items k s c.in-ok-right.right in
-    let told = c.in-ok-right.ensures in (
-      passed_then _ _ _ (A ++ (mark (Compare g) ∷ [])) B _ c.in-ok-right.after (append_assoc A (mark (Compare g) ∷ []) B)
-          (with-token _ _ A c.in-ok-left.compare (mark (Compare g)) c.in-ok-left.ensures.0 c.in-Compare.is refl refl) told.0,
+    let A = sum_items k s c.in_ok-left.left in
+    let B = sum_items k s c.in_ok-right.right in
+    let told = c.in_ok-right.ensures in (
+      passed_then _ _ _ (A ++ (mark (Compare g) ∷ [])) B _ c.in_ok-right.after (append_assoc A (mark (Compare g) ∷ []) B)
+          (with-token _ _ A c.in_ok-left.compare (mark (Compare g)) c.in_ok-left.ensures.0 c.in-Compare.is refl refl) told.0,
       told.1,
     )

@@ -16,37 +16,37 @@ use Rattle.book.proofs.Compose.{start, then, alike, onto, one, at, closed, stops
 use Rattle.book.proofs.Sums.{part_first, inv_product, not_number, part_ends, sum_ends, inv_one, inv_two, inv_three, sum_code, compare_ends}
 use Rattle.book.proofs.parts.read_lead.Goals as goal
 
-pub returns-in-err-seen : goal.returns-in-err-seen
-returns-in-err-seen c =
-    let nx = c.in-err-seen.ensures in
-    let p = err_from_is_err_and c.from-residual.result c.from-residual.ensures.1 in
-    rw (p.1, p.2) (bad-first Part (part_items c.args.k c.args.bound) (any Part) (Number 0) _ nx.0 c.in-err-seen.field-0.0 nx.1)
+pub returns-in_err-seen : goal.returns-in_err-seen
+returns-in_err-seen c =
+    let nx = c.in_err-seen.ensures in
+    let p = err_from_is_err_and c.from_residual.result c.from_residual.ensures.1 in
+    rw (p.1, p.2) (bad-first Part (part_items c.args.k c.args.bound) (any Part) (Number 0) _ nx.0 c.in_err-seen.field-0.0 nx.1)
 
-pub returns-in-default : goal.returns-in-default
-returns-in-default c =
-    let nx = c.in-ok-seen.ensures in
-    wrong_first Part (part_items c.args.k c.args.bound) (any Part) (Number 0) _ nx.0 c.in-ok-seen.seen nx.1
-    (λ x u more f e. part_first c.args.k c.args.bound x c.in-ok-seen.seen.terminal u more e c.in-default.not-Numeral c.in-default.not-Lettered)
+pub returns-in_default : goal.returns-in_default
+returns-in_default c =
+    let nx = c.in_ok-seen.ensures in
+    wrong_first Part (part_items c.args.k c.args.bound) (any Part) (Number 0) _ nx.0 c.in_ok-seen.seen nx.1
+    (λ x u more f e. part_first c.args.k c.args.bound x c.in_ok-seen.seen.terminal u more e c.in_default.not-Numeral c.in_default.not-Lettered)
 
 pub returns-in-Some : goal.returns-in-Some
 returns-in-Some c =
-    let nx = c.in-ok-seen.ensures in
+    let nx = c.in_ok-seen.ensures in
     let n = c.in-Numeral.number in
-    faulty_first Part (part_items c.args.k c.args.bound) (any Part) (Number n) (item (Numeral n) (counts c.args.k)) [] refl _ nx.0 c.in-ok-seen.seen c.in-Some.reason nx.1 c.in-Numeral.is (sym c.in-Some.ensures)
+    faulty_first Part (part_items c.args.k c.args.bound) (any Part) (Number n) (item (Numeral n) (counts c.args.k)) [] refl _ nx.0 c.in_ok-seen.seen c.in-Some.reason nx.1 c.in-Numeral.is (sym c.in-Some.ensures)
 
 pub returns-in-None : goal.returns-in-None
 returns-in-None c =
-    let nx = c.in-ok-seen.ensures in
-    one _ nx.0 _ c.in-ok-seen.seen (item (Numeral c.in-Numeral.number) (counts c.args.k)) nx.1 nx.2 c.in-Numeral.is refl (sym c.in-None.ensures)
+    let nx = c.in_ok-seen.ensures in
+    one _ nx.0 _ c.in_ok-seen.seen (item (Numeral c.in-Numeral.number) (counts c.args.k)) nx.1 nx.2 c.in-Numeral.is refl (sym c.in-None.ensures)
 
-pub returns-in-Some-letter-fault : goal.returns-in-Some-letter-fault
-returns-in-Some-letter-fault c =
-    let nx = c.in-ok-seen.ensures in
+pub returns-in-Some-letter_fault : goal.returns-in-Some-letter_fault
+returns-in-Some-letter_fault c =
+    let nx = c.in_ok-seen.ensures in
     let l = c.in-Lettered.letter in
-    faulty_first Part (part_items c.args.k c.args.bound) (any Part) (Bound l) (item (Lettered l) (uses c.args.k c.args.bound l)) [] refl _ nx.0 c.in-ok-seen.seen c.in-Some-letter-fault.reason nx.1 c.in-Lettered.is (sym c.in-Some-letter-fault.ensures)
+    faulty_first Part (part_items c.args.k c.args.bound) (any Part) (Bound l) (item (Lettered l) (uses c.args.k c.args.bound l)) [] refl _ nx.0 c.in_ok-seen.seen c.in-Some-letter_fault.reason nx.1 c.in-Lettered.is (sym c.in-Some-letter_fault.ensures)
 
-pub returns-in-None-letter-fault : goal.returns-in-None-letter-fault
-returns-in-None-letter-fault c =
-    let nx = c.in-ok-seen.ensures in
+pub returns-in-None-letter_fault : goal.returns-in-None-letter_fault
+returns-in-None-letter_fault c =
+    let nx = c.in_ok-seen.ensures in
     let l = c.in-Lettered.letter in
-    one _ nx.0 _ c.in-ok-seen.seen (item (Lettered l) (uses c.args.k c.args.bound l)) nx.1 nx.2 c.in-Lettered.is refl (sym c.in-None-letter-fault.ensures)
+    one _ nx.0 _ c.in_ok-seen.seen (item (Lettered l) (uses c.args.k c.args.bound l)) nx.1 nx.2 c.in-Lettered.is refl (sym c.in-None-letter_fault.ensures)

@@ -16,25 +16,25 @@ use Rattle.book.proofs.Compose.{start, then, alike, onto, one, at, closed, stops
 use Rattle.book.proofs.Sums.{part_first, inv_product, not_number, part_ends, sum_ends, inv_one, inv_two, inv_three, sum_code, compare_ends}
 use Rattle.book.proofs.parts.read_letter.Goals as goal
 
-pub returns-in-err-seen : goal.returns-in-err-seen
-returns-in-err-seen c =
-    let nx = c.in-err-seen.ensures in
-    let p = err_from_is_err_and c.from-residual.result c.from-residual.ensures.1 in
-    rw (p.1, p.2) (bad-first Letter (letter_items c.args.k c.args.bound) (any Letter) A _ nx.0 c.in-err-seen.field-0.0 nx.1)
+pub returns-in_err-seen : goal.returns-in_err-seen
+returns-in_err-seen c =
+    let nx = c.in_err-seen.ensures in
+    let p = err_from_is_err_and c.from_residual.result c.from_residual.ensures.1 in
+    rw (p.1, p.2) (bad-first Letter (letter_items c.args.k c.args.bound) (any Letter) A _ nx.0 c.in_err-seen.field-0.0 nx.1)
 
-pub returns-in-default : goal.returns-in-default
-returns-in-default c =
-    let nx = c.in-ok-seen.ensures in
-    wrong_first Letter (letter_items c.args.k c.args.bound) (any Letter) A _ nx.0 c.in-ok-seen.seen nx.1 (λ x u more f e. c.in-default.not-Lettered x (cc))
+pub returns-in_default : goal.returns-in_default
+returns-in_default c =
+    let nx = c.in_ok-seen.ensures in
+    wrong_first Letter (letter_items c.args.k c.args.bound) (any Letter) A _ nx.0 c.in_ok-seen.seen nx.1 (λ x u more f e. c.in_default.not-Lettered x (cc))
 
 pub returns-in-Some : goal.returns-in-Some
 returns-in-Some c =
-    let nx = c.in-ok-seen.ensures in
+    let nx = c.in_ok-seen.ensures in
     let l = c.in-Lettered.letter in
-    faulty_first Letter (letter_items c.args.k c.args.bound) (any Letter) l (item (Lettered l) (uses c.args.k c.args.bound l)) [] refl _ nx.0 c.in-ok-seen.seen c.in-Some.reason nx.1 c.in-Lettered.is (sym c.in-Some.ensures)
+    faulty_first Letter (letter_items c.args.k c.args.bound) (any Letter) l (item (Lettered l) (uses c.args.k c.args.bound l)) [] refl _ nx.0 c.in_ok-seen.seen c.in-Some.reason nx.1 c.in-Lettered.is (sym c.in-Some.ensures)
 
 pub returns-in-None : goal.returns-in-None
 returns-in-None c =
-    let nx = c.in-ok-seen.ensures in
+    let nx = c.in_ok-seen.ensures in
     let l = c.in-Lettered.letter in
-    one _ nx.0 _ c.in-ok-seen.seen (item (Lettered l) (uses c.args.k c.args.bound l)) nx.1 nx.2 c.in-Lettered.is refl (sym c.in-None.ensures)
+    one _ nx.0 _ c.in_ok-seen.seen (item (Lettered l) (uses c.args.k c.args.bound l)) nx.1 nx.2 c.in-Lettered.is refl (sym c.in-None.ensures)

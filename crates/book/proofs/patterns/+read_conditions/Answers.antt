@@ -19,42 +19,42 @@ use Rattle.book.proofs.Compose.{start, then, alike, onto, one, at, closed, stops
 use Rattle.book.proofs.Lists.{operand_first, binder, more-first, inv_field, inv_operand, more_binders_lem, binders_first, inv_first_operand, first_binders, inv_condition, inv_after, more_conditions, few_conditions}
 use Rattle.book.proofs.patterns.+read_conditions.Goals as goal
 
-pub returns-in-err-condition : goal.returns-in-err-condition
-returns-in-err-condition t c =
+pub returns-in_err-condition : goal.returns-in_err-condition
+returns-in_err-condition t c =
     let k = c.args.k in
     let s = c.args.bound in
-    let p = err_from_is_err_and c.from-residual.result c.from-residual.ensures.1 in
+    let p = err_from_is_err_and c.from_residual.result c.from_residual.ensures.1 in
     rw (p.1, p.2) (within Condition (Condition × List Condition) (condition_items k s) ConditionStops (conditions_closed k s) (any (Condition × List Condition)) [] (λ x. (x, [])) (λ _. mark CloseSquare ∷ []) (λ _. refl)
-    (λ y u v _ q. inv_condition k s y.0 y.1 u v q) _ _ _ _ (start _ _ refl) c.in-err-condition.ensures)
+    (λ y u v _ q. inv_condition k s y.0 y.1 u v q) _ _ _ _ (start _ _ refl) c.in_err-condition.ensures)
 
-pub read-conditions-requires : goal.read-conditions-requires
-read-conditions-requires t c =
-    let few : c.args.k ≤ 4 = few_conditions c.args.k c.args.bound c.in-ok-condition.condition c.in-ok-condition.ensures.0.reads.sound in
+pub read_conditions-requires : goal.read_conditions-requires
+read_conditions-requires t c =
+    let few : c.args.k ≤ 4 = few_conditions c.args.k c.args.bound c.in_ok-condition.condition c.in_ok-condition.ensures.0.reads.sound in
     search rules
 
 pub returns-in-CloseSquare : goal.returns-in-CloseSquare
 returns-in-CloseSquare t c =
-    let A = condition_items c.args.k c.args.bound c.in-ok-condition.condition in (
-      c.in-ok-condition.condition,
+    let A = condition_items c.args.k c.args.bound c.in_ok-condition.condition in (
+      c.in_ok-condition.condition,
       [],
-      c.in-ok-push.ensures.items,
-      with-token _ _ A c.in-ok-condition.after (mark CloseSquare) c.in-ok-condition.ensures.0 c.in-CloseSquare.is refl refl,
+      c.in_ok-push.ensures.items,
+      with-token _ _ A c.in_ok-condition.after (mark CloseSquare) c.in_ok-condition.ensures.0 c.in-CloseSquare.is refl refl,
     )
 
 pub returns-in-Comma : goal.returns-in-Comma
 returns-in-Comma t c =
     let k = c.args.k in
     let s = c.args.bound in
-    let a = c.in-ok-condition.condition in
-    more_conditions k s a (coming c.args.cur.now) (coming c.read-condition.new.cur) (coming c.read-conditions.new.cur) (vec_items c.args.out.now) (vec_items c.push.new.self) (vec_items c.read-conditions.new.out)
-    (with-token _ _ (condition_items k s a) c.in-ok-condition.after (mark Comma) c.in-ok-condition.ensures.0 c.in-Comma.is refl refl)
-    c.in-ok-push.ensures.items c.read-conditions.result c.read-conditions.ensures
+    let a = c.in_ok-condition.condition in
+    more_conditions k s a (coming c.args.cur.now) (coming c.read_condition.new.cur) (coming c.read_conditions.new.cur) (vec_items c.args.out.now) (vec_items c.push.new.self) (vec_items c.read_conditions.new.out)
+    (with-token _ _ (condition_items k s a) c.in_ok-condition.after (mark Comma) c.in_ok-condition.ensures.0 c.in-Comma.is refl refl)
+    c.in_ok-push.ensures.items c.read_conditions.result c.read_conditions.ensures
 
-pub returns-in-default : goal.returns-in-default
-returns-in-default t c =
+pub returns-in_default : goal.returns-in_default
+returns-in_default t c =
     let k = c.args.k in
     let s = c.args.bound in
-    let a = c.in-ok-condition.condition in
-    let told = c.in-ok-condition.ensures in
-    wrong (Condition × List Condition) (conditions_closed k s) (any (Condition × List Condition)) (condition_items k s a) (a, []) (mark CloseSquare ∷ []) refl _ _ told.0.rest c.in-ok-condition.after told.0.reads refl
-    (λ y u more f e. inv_after k s a c.in-ok-condition.after.terminal told.1 c.in-default.not-CloseSquare c.in-default.not-Comma y.0 y.1 u more e)
+    let a = c.in_ok-condition.condition in
+    let told = c.in_ok-condition.ensures in
+    wrong (Condition × List Condition) (conditions_closed k s) (any (Condition × List Condition)) (condition_items k s a) (a, []) (mark CloseSquare ∷ []) refl _ _ told.0.rest c.in_ok-condition.after told.0.reads refl
+    (λ y u more f e. inv_after k s a c.in_ok-condition.after.terminal told.1 c.in_default.not-CloseSquare c.in_default.not-Comma y.0 y.1 u more e)

@@ -1,5 +1,5 @@
 use Rattle.std.proofs.Common.{◌-◌}
 use Rattle.book.proofs.patterns.+read_conditions.Given as goal
 
-abbrev pub decreases-read-conditions : goal.decreases-read-conditions
-decreases-read-conditions l = 6 - l.k
+abbrev pub decreases-read_conditions : goal.decreases-read_conditions
+decreases-read_conditions l = 6 - l.k

@@ -19,71 +19,71 @@ use Rattle.book.proofs.Compose.{start, then, alike, onto, one, at, closed, stops
 use Rattle.book.proofs.Lists.{operand_first, binder, more-first, inv_field, inv_operand, more_binders_lem, binders_first, inv_first_operand, first_binders, inv_condition, inv_after, more_conditions, few_conditions}
 use Rattle.book.proofs.patterns.+read_more_binders.Goals as goal
 
-pub returns-in-err-seen : goal.returns-in-err-seen
-returns-in-err-seen t c =
-    let nx = c.in-err-seen.ensures in
-    let p = err_from_is_err_and c.from-residual.result c.from-residual.ensures.1 in
-    rw (p.1, p.2) (bad-first (List Binder × Bool) (more_closed c.args.fields c.args.letters) (any (List Binder × Bool)) ([], false) _ nx.0 c.in-err-seen.field-0.0 nx.1)
+pub returns-in_err-seen : goal.returns-in_err-seen
+returns-in_err-seen t c =
+    let nx = c.in_err-seen.ensures in
+    let p = err_from_is_err_and c.from_residual.result c.from_residual.ensures.1 in
+    rw (p.1, p.2) (bad-first (List Binder × Bool) (more_closed c.args.fields c.args.letters) (any (List Binder × Bool)) ([], false) _ nx.0 c.in_err-seen.field-0.0 nx.1)
 
-pub returns-in-err-field : goal.returns-in-err-field
-returns-in-err-field t c =
-    let nx = c.in-ok-seen.ensures in
+pub returns-in_err-field : goal.returns-in_err-field
+returns-in_err-field t c =
+    let nx = c.in_ok-seen.ensures in
     let fs = c.args.fields in
     let ls = c.args.letters in
-    let p = err_from_is_err_and c.from-residual-in-err-field.result c.from-residual-in-err-field.ensures.1 in
+    let p = err_from_is_err_and c.from_residual-in_err-field.result c.from_residual-in_err-field.ensures.1 in
     rw (p.1, p.2) (within Field (List Binder × Bool) (field_items fs) (any Field) (more_closed fs ls) (any (List Binder × Bool)) (mark Comma ∷ []) (λ f. (binder f (Number 0) ∷ [], false)) (λ _. mark (Numeral 0) ∷ mark CloseSquare ∷ []) (λ _. refl)
     (λ y u v _ q. let i = inv_field fs ls y.0 y.1 u v q in (i.0, i.1, closed i.0 i.1, i.2)) _ _ _ _
-    (one _ nx.0 _ c.in-ok-seen.seen (mark Comma) nx.1 nx.2 c.in-Comma.is refl refl) c.in-err-field.ensures)
+    (one _ nx.0 _ c.in_ok-seen.seen (mark Comma) nx.1 nx.2 c.in-Comma.is refl refl) c.in_err-field.ensures)
 
-pub returns-in-err-operand : goal.returns-in-err-operand
-returns-in-err-operand t c =
-    let nx = c.in-ok-seen.ensures in
+pub returns-in_err-operand : goal.returns-in_err-operand
+returns-in_err-operand t c =
+    let nx = c.in_ok-seen.ensures in
     let fs = c.args.fields in
     let ls = c.args.letters in
-    let f = c.in-ok-field.field in
-    let p = err_from_is_err_and c.from-residual-in-err-operand.result c.from-residual-in-err-operand.ensures.1 in
+    let f = c.in_ok-field.field in
+    let p = err_from_is_err_and c.from_residual-in_err-operand.result c.from_residual-in_err-operand.ensures.1 in
     rw (p.1, p.2) (within Operand (List Binder × Bool) (operand_items ls) (any Operand) (more_closed fs ls) (any (List Binder × Bool)) (mark Comma ∷ item (Named f) (names fs f) ∷ []) (λ o. (binder f o ∷ [], false)) (λ _. mark CloseSquare ∷ []) (λ _. refl)
     (λ y u v _ q. let i = inv_operand fs ls f y.0 y.1 u v q in (i.0, i.1, closed i.0 i.1, i.2)) _ _ _ _
-    (then _ _ _ (mark Comma ∷ []) (field_items fs f) (one _ nx.0 _ c.in-ok-seen.seen (mark Comma) nx.1 nx.2 c.in-Comma.is refl refl) c.in-ok-field.ensures) c.in-err-operand.ensures)
+    (then _ _ _ (mark Comma ∷ []) (field_items fs f) (one _ nx.0 _ c.in_ok-seen.seen (mark Comma) nx.1 nx.2 c.in-Comma.is refl refl) c.in_ok-field.ensures) c.in_err-operand.ensures)
 
 pub returns-in-If : goal.returns-in-If
 returns-in-If t c =
-    let nx = c.in-ok-seen.ensures in
-    ([], sym (append-nil _), one _ nx.0 _ c.in-ok-seen.seen (mark If) nx.1 nx.2 c.in-If.is refl refl)
+    let nx = c.in_ok-seen.ensures in
+    ([], sym (append-nil _), one _ nx.0 _ c.in_ok-seen.seen (mark If) nx.1 nx.2 c.in-If.is refl refl)
 
 pub returns-in-CloseSquare : goal.returns-in-CloseSquare
 returns-in-CloseSquare t c =
-    let nx = c.in-ok-seen.ensures in
-    ([], sym (append-nil _), one _ nx.0 _ c.in-ok-seen.seen (mark CloseSquare) nx.1 nx.2 c.in-CloseSquare.is refl refl)
+    let nx = c.in_ok-seen.ensures in
+    ([], sym (append-nil _), one _ nx.0 _ c.in_ok-seen.seen (mark CloseSquare) nx.1 nx.2 c.in-CloseSquare.is refl refl)
 
-pub returns-in-default : goal.returns-in-default
-returns-in-default t c =
-    let nx = c.in-ok-seen.ensures in
+pub returns-in_default : goal.returns-in_default
+returns-in_default t c =
+    let nx = c.in_ok-seen.ensures in
     let fs = c.args.fields in
     let ls = c.args.letters in
-    wrong_first (List Binder × Bool) (more_closed fs ls) (any (List Binder × Bool)) ([], false) _ nx.0 c.in-ok-seen.seen nx.1
-    (λ x u more f e. more-first fs ls x.0 x.1 c.in-ok-seen.seen.terminal u more e c.in-default.not-If c.in-default.not-CloseSquare c.in-default.not-Comma)
+    wrong_first (List Binder × Bool) (more_closed fs ls) (any (List Binder × Bool)) ([], false) _ nx.0 c.in_ok-seen.seen nx.1
+    (λ x u more f e. more-first fs ls x.0 x.1 c.in_ok-seen.seen.terminal u more e c.in_default.not-If c.in_default.not-CloseSquare c.in_default.not-Comma)
 
-pub read-more-binders-requires : goal.read-more-binders-requires
-read-more-binders-requires t c =
-    let nx = c.in-ok-seen.ensures in
+pub read_more_binders-requires : goal.read_more_binders-requires
+read_more_binders-requires t c =
+    let nx = c.in_ok-seen.ensures in
     let fs = c.args.fields in
     let ls = c.args.letters in
-    let less : length (coming c.read-operand.new.cur) < length (coming c.args.cur.now) =
-    shrinks _ _ (mark Comma) (field_items fs c.in-ok-field.field ++ operand_items ls c.in-ok-operand.operand)
-    (then _ _ _ (mark Comma ∷ []) (field_items fs c.in-ok-field.field ++ operand_items ls c.in-ok-operand.operand) (one _ nx.0 _ c.in-ok-seen.seen (mark Comma) nx.1 nx.2 c.in-Comma.is refl refl)
-    (then _ _ _ (field_items fs c.in-ok-field.field) (operand_items ls c.in-ok-operand.operand) c.in-ok-field.ensures c.in-ok-operand.ensures)) in
+    let less : length (coming c.read_operand.new.cur) < length (coming c.args.cur.now) =
+    shrinks _ _ (mark Comma) (field_items fs c.in_ok-field.field ++ operand_items ls c.in_ok-operand.operand)
+    (then _ _ _ (mark Comma ∷ []) (field_items fs c.in_ok-field.field ++ operand_items ls c.in_ok-operand.operand) (one _ nx.0 _ c.in_ok-seen.seen (mark Comma) nx.1 nx.2 c.in-Comma.is refl refl)
+    (then _ _ _ (field_items fs c.in_ok-field.field) (operand_items ls c.in_ok-operand.operand) c.in_ok-field.ensures c.in_ok-operand.ensures)) in
     search rules
 
-pub returns-in-ok-push : goal.returns-in-ok-push
-returns-in-ok-push t c =
-    let nx = c.in-ok-seen.ensures in
+pub returns-in_ok-push : goal.returns-in_ok-push
+returns-in_ok-push t c =
+    let nx = c.in_ok-seen.ensures in
     let fs = c.args.fields in
     let ls = c.args.letters in
-    let f = c.in-ok-field.field in
-    let o = c.in-ok-operand.operand in
-    more_binders_lem fs ls f o (coming c.args.cur.now) (coming c.read-operand.new.cur) (coming c.read-more-binders.new.cur) (vec_items c.args.out.now) (vec_items c.push.new.self) (vec_items c.read-more-binders.new.out)
-    (then _ _ _ (mark Comma ∷ []) (field_items fs f ++ operand_items ls o) (one _ nx.0 _ c.in-ok-seen.seen (mark Comma) nx.1 nx.2 c.in-Comma.is refl refl)
-    (then _ _ _ (field_items fs f) (operand_items ls o) c.in-ok-field.ensures c.in-ok-operand.ensures))
-    c.in-ok-push.ensures.items c.read-more-binders.result
-    (move_sets c.with.result (with_field fs f) c.with-operand.result (with_operand ls o) (coming c.read-operand.new.cur) (coming c.read-more-binders.new.cur) (vec_items c.push.new.self) (vec_items c.read-more-binders.new.out) c.read-more-binders.result c.with.ensures c.with-operand.ensures c.read-more-binders.ensures)
+    let f = c.in_ok-field.field in
+    let o = c.in_ok-operand.operand in
+    more_binders_lem fs ls f o (coming c.args.cur.now) (coming c.read_operand.new.cur) (coming c.read_more_binders.new.cur) (vec_items c.args.out.now) (vec_items c.push.new.self) (vec_items c.read_more_binders.new.out)
+    (then _ _ _ (mark Comma ∷ []) (field_items fs f ++ operand_items ls o) (one _ nx.0 _ c.in_ok-seen.seen (mark Comma) nx.1 nx.2 c.in-Comma.is refl refl)
+    (then _ _ _ (field_items fs f) (operand_items ls o) c.in_ok-field.ensures c.in_ok-operand.ensures))
+    c.in_ok-push.ensures.items c.read_more_binders.result
+    (move_sets c.with.result (with_field fs f) c.with_operand.result (with_operand ls o) (coming c.read_operand.new.cur) (coming c.read_more_binders.new.cur) (vec_items c.push.new.self) (vec_items c.read_more_binders.new.out) c.read_more_binders.result c.with.ensures c.with_operand.ensures c.read_more_binders.ensures)

@@ -17,25 +17,25 @@ use Rattle.book.proofs.Compose.{start, then, alike, onto, one, at, closed, stops
 use Rattle.book.proofs.Lists.{operand_first, binder, more-first, inv_field, inv_operand, more_binders_lem, binders_first, inv_first_operand, first_binders, inv_condition, inv_after, more_conditions, few_conditions}
 use Rattle.book.proofs.patterns.read_field.Goals as goal
 
-pub returns-in-err-seen : goal.returns-in-err-seen
-returns-in-err-seen c =
-    let nx = c.in-err-seen.ensures in
-    let p = err_from_is_err_and c.from-residual.result c.from-residual.ensures.1 in
-    rw (p.1, p.2) (bad-first Field (field_items c.args.fields) (any Field) Time _ nx.0 c.in-err-seen.field-0.0 nx.1)
+pub returns-in_err-seen : goal.returns-in_err-seen
+returns-in_err-seen c =
+    let nx = c.in_err-seen.ensures in
+    let p = err_from_is_err_and c.from_residual.result c.from_residual.ensures.1 in
+    rw (p.1, p.2) (bad-first Field (field_items c.args.fields) (any Field) Time _ nx.0 c.in_err-seen.field-0.0 nx.1)
 
-pub returns-in-default : goal.returns-in-default
-returns-in-default c =
-    let nx = c.in-ok-seen.ensures in
-    wrong_first Field (field_items c.args.fields) (any Field) Time _ nx.0 c.in-ok-seen.seen nx.1 (λ x u more f e. c.in-default.not-Named x (cc))
+pub returns-in_default : goal.returns-in_default
+returns-in_default c =
+    let nx = c.in_ok-seen.ensures in
+    wrong_first Field (field_items c.args.fields) (any Field) Time _ nx.0 c.in_ok-seen.seen nx.1 (λ x u more f e. c.in_default.not-Named x (cc))
 
 pub returns-in-Some : goal.returns-in-Some
 returns-in-Some c =
-    let nx = c.in-ok-seen.ensures in
+    let nx = c.in_ok-seen.ensures in
     let f = c.in-Named.field in
-    faulty_first Field (field_items c.args.fields) (any Field) f (item (Named f) (names c.args.fields f)) [] refl _ nx.0 c.in-ok-seen.seen c.in-Some.reason nx.1 c.in-Named.is (sym c.in-Some.ensures)
+    faulty_first Field (field_items c.args.fields) (any Field) f (item (Named f) (names c.args.fields f)) [] refl _ nx.0 c.in_ok-seen.seen c.in-Some.reason nx.1 c.in-Named.is (sym c.in-Some.ensures)
 
 pub returns-in-None : goal.returns-in-None
 returns-in-None c =
-    let nx = c.in-ok-seen.ensures in
+    let nx = c.in_ok-seen.ensures in
     let f = c.in-Named.field in
-    one _ nx.0 _ c.in-ok-seen.seen (item (Named f) (names c.args.fields f)) nx.1 nx.2 c.in-Named.is refl (sym c.in-None.ensures)
+    one _ nx.0 _ c.in_ok-seen.seen (item (Named f) (names c.args.fields f)) nx.1 nx.2 c.in-Named.is refl (sym c.in-None.ensures)

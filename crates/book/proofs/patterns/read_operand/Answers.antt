@@ -17,31 +17,31 @@ use Rattle.book.proofs.Compose.{start, then, alike, onto, one, at, closed, stops
 use Rattle.book.proofs.Lists.{operand_first, binder, more-first, inv_field, inv_operand, more_binders_lem, binders_first, inv_first_operand, first_binders, inv_condition, inv_after, more_conditions, few_conditions}
 use Rattle.book.proofs.patterns.read_operand.Goals as goal
 
-pub returns-in-err-seen : goal.returns-in-err-seen
-returns-in-err-seen c =
-    let nx = c.in-err-seen.ensures in
-    let p = err_from_is_err_and c.from-residual.result c.from-residual.ensures.1 in
-    rw (p.1, p.2) (bad-first Operand (operand_items c.args.letters) (any Operand) (Number 0) _ nx.0 c.in-err-seen.field-0.0 nx.1)
+pub returns-in_err-seen : goal.returns-in_err-seen
+returns-in_err-seen c =
+    let nx = c.in_err-seen.ensures in
+    let p = err_from_is_err_and c.from_residual.result c.from_residual.ensures.1 in
+    rw (p.1, p.2) (bad-first Operand (operand_items c.args.letters) (any Operand) (Number 0) _ nx.0 c.in_err-seen.field-0.0 nx.1)
 
-pub returns-in-default : goal.returns-in-default
-returns-in-default c =
-    let nx = c.in-ok-seen.ensures in
-    wrong_first Operand (operand_items c.args.letters) (any Operand) (Number 0) _ nx.0 c.in-ok-seen.seen nx.1
-    (λ x u more f e. operand_first c.args.letters x c.in-ok-seen.seen.terminal u more e c.in-default.not-Numeral c.in-default.not-Lettered)
+pub returns-in_default : goal.returns-in_default
+returns-in_default c =
+    let nx = c.in_ok-seen.ensures in
+    wrong_first Operand (operand_items c.args.letters) (any Operand) (Number 0) _ nx.0 c.in_ok-seen.seen nx.1
+    (λ x u more f e. operand_first c.args.letters x c.in_ok-seen.seen.terminal u more e c.in_default.not-Numeral c.in_default.not-Lettered)
 
 pub returns-in-Numeral : goal.returns-in-Numeral
 returns-in-Numeral c =
-    let nx = c.in-ok-seen.ensures in
-    one _ nx.0 _ c.in-ok-seen.seen (mark (Numeral c.in-Numeral.number)) nx.1 nx.2 c.in-Numeral.is refl refl
+    let nx = c.in_ok-seen.ensures in
+    one _ nx.0 _ c.in_ok-seen.seen (mark (Numeral c.in-Numeral.number)) nx.1 nx.2 c.in-Numeral.is refl refl
 
 pub returns-in-Some : goal.returns-in-Some
 returns-in-Some c =
-    let nx = c.in-ok-seen.ensures in
+    let nx = c.in_ok-seen.ensures in
     let l = c.in-Lettered.letter in
-    faulty_first Operand (operand_items c.args.letters) (any Operand) (Bound l) (item (Lettered l) (binds c.args.letters l)) [] refl _ nx.0 c.in-ok-seen.seen c.in-Some.reason nx.1 c.in-Lettered.is (sym c.in-Some.ensures)
+    faulty_first Operand (operand_items c.args.letters) (any Operand) (Bound l) (item (Lettered l) (binds c.args.letters l)) [] refl _ nx.0 c.in_ok-seen.seen c.in-Some.reason nx.1 c.in-Lettered.is (sym c.in-Some.ensures)
 
 pub returns-in-None : goal.returns-in-None
 returns-in-None c =
-    let nx = c.in-ok-seen.ensures in
+    let nx = c.in_ok-seen.ensures in
     let l = c.in-Lettered.letter in
-    one _ nx.0 _ c.in-ok-seen.seen (item (Lettered l) (binds c.args.letters l)) nx.1 nx.2 c.in-Lettered.is refl (sym c.in-None.ensures)
+    one _ nx.0 _ c.in_ok-seen.seen (item (Lettered l) (binds c.args.letters l)) nx.1 nx.2 c.in-Lettered.is refl (sym c.in-None.ensures)

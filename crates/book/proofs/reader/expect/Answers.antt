@@ -13,18 +13,18 @@ use Rattle.book.proofs.Compose.{one, bad-first, wrong_first, faulty_first}
 use Rattle.book.proofs.Nested.{expected_goes, opening-goes}
 use Rattle.book.proofs.reader.expect.Goals as goal
 
-pub returns-in-err-seen : goal.returns-in-err-seen
-returns-in-err-seen c =
-    let nx = c.in-err-seen.ensures in
-    let p = err_from_is_err_and c.from-residual.result c.from-residual.ensures.1 in
-    rw (p.1, p.2) (bad-first (Unit {0}) (expected_items c.args.expected) (any (Unit {0})) tt _ nx.0 c.in-err-seen.field-0.0 nx.1)
+pub returns-in_err-seen : goal.returns-in_err-seen
+returns-in_err-seen c =
+    let nx = c.in_err-seen.ensures in
+    let p = err_from_is_err_and c.from_residual.result c.from_residual.ensures.1 in
+    rw (p.1, p.2) (bad-first (Unit {0}) (expected_items c.args.expected) (any (Unit {0})) tt _ nx.0 c.in_err-seen.field-0.0 nx.1)
 
-pub returns-then-is-expected : goal.returns-then-is-expected
-returns-then-is-expected c =
-    let nx = c.in-ok-seen.ensures in
-    one _ nx.0 _ c.in-ok-seen.seen (mark (expected_terminal c.args.expected)) nx.1 nx.2 (c.if-is-expected.ensures.yes refl) (expected_goes c.args.expected) refl
+pub returns-then-is_expected : goal.returns-then-is_expected
+returns-then-is_expected c =
+    let nx = c.in_ok-seen.ensures in
+    one _ nx.0 _ c.in_ok-seen.seen (mark (expected_terminal c.args.expected)) nx.1 nx.2 (c.if-is_expected.ensures.yes refl) (expected_goes c.args.expected) refl
 
 pub returns : goal.returns
 returns c =
-    let nx = c.in-ok-seen.ensures in
-    wrong_first (Unit {0}) (expected_items c.args.expected) (any (Unit {0})) tt _ nx.0 c.in-ok-seen.seen nx.1 (λ x u more f e. c.if-is-expected.ensures.no refl (cc))
+    let nx = c.in_ok-seen.ensures in
+    wrong_first (Unit {0}) (expected_items c.args.expected) (any (Unit {0})) tt _ nx.0 c.in_ok-seen.seen nx.1 (λ x u more f e. c.if-is_expected.ensures.no refl (cc))

@@ -18,41 +18,41 @@ use Rattle.book.proofs.Compose.{start, then, alike, part_of}
 use Rattle.book.proofs.Nested.{inside, some, eq_mid, eq_last, inv_opening, begun, begun_rest, begins, inv_act, inv_before, inv_deadline, inner, inv_start, inv_until, inv_end, inv_then, inv_duty, first, second, inv_left, inv_joint, inv_right, inv_close}
 use Rattle.book.proofs.reader.read_duty.Goals as goal
 
-pub returns-in-err-act : goal.returns-in-err-act
-returns-in-err-act c =
+pub returns-in_err-act : goal.returns-in_err-act
+returns-in_err-act c =
     let b = c.args.bound in
     let k = c.args.kind in
-    let p = err_from_is_err_and c.from-residual.result c.from-residual.ensures.1 in
+    let p = err_from_is_err_and c.from_residual.result c.from_residual.ensures.1 in
     rw (p.1, p.2) (record {
       told = λ rule nodes around from r. let s : Spot = spot rule nodes around b in
-          part_of held-pattern.Pattern Pattern held.Rule Rule pure_pattern pure_rule (pattern_items b) (rule_items s) (item (Duty k) (started s) ∷ []) (λ x. duty k x never) (λ _. mark Before ∷ pattern_items b never) (λ _. refl) (inv_act s k) from _ (coming c.read-pattern.new.cur) (coming c.read-pattern.new.cur) r c.in-err-act.field-0.0 c.in-err-act.ensures;
+          part_of held-pattern.Pattern Pattern held.Rule Rule pure_pattern pure_rule (pattern_items b) (rule_items s) (item (Duty k) (started s) ∷ []) (λ x. duty k x never) (λ _. mark Before ∷ pattern_items b never) (λ _. refl) (inv_act s k) from _ (coming c.read_pattern.new.cur) (coming c.read_pattern.new.cur) r c.in_err-act.field-0.0 c.in_err-act.ensures;
       alone = tt;
     })
 
-pub returns-in-err-expect : goal.returns-in-err-expect
-returns-in-err-expect c =
+pub returns-in_err-expect : goal.returns-in_err-expect
+returns-in_err-expect c =
     let b = c.args.bound in
     let k = c.args.kind in
-    let act = pure_pattern c.in-ok-act.act in
-    let p = err_from_is_err_and c.from-residual-in-err-expect.result c.from-residual-in-err-expect.ensures.1 in
+    let act = pure_pattern c.in_ok-act.act in
+    let p = err_from_is_err_and c.from_residual-in_err-expect.result c.from_residual-in_err-expect.ensures.1 in
     rw (p.1, p.2) (record {
       told = λ rule nodes around from r. let s : Spot = spot rule nodes around b in
           inside (Unit {0}) Rule (expected_items expected.Before) (rule_items s) (item (Duty k) (started s) ∷ pattern_items b act) (λ _. duty k act never) (λ _. pattern_items b never) (λ _. refl) (inv_before s k act) from _ _ _
-          (then _ _ _ (item (Duty k) (started s) ∷ []) (pattern_items b act) r c.in-ok-act.ensures) c.in-err-expect.ensures;
+          (then _ _ _ (item (Duty k) (started s) ∷ []) (pattern_items b act) r c.in_ok-act.ensures) c.in_err-expect.ensures;
       alone = tt;
     })
 
-pub returns-in-err-deadline : goal.returns-in-err-deadline
-returns-in-err-deadline c =
+pub returns-in_err-deadline : goal.returns-in_err-deadline
+returns-in_err-deadline c =
     let b = c.args.bound in
     let k = c.args.kind in
-    let act = pure_pattern c.in-ok-act.act in
+    let act = pure_pattern c.in_ok-act.act in
     let A = pattern_items b act in
-    let p = err_from_is_err_and c.from-residual-in-err-deadline.result c.from-residual-in-err-deadline.ensures.1 in
+    let p = err_from_is_err_and c.from_residual-in_err-deadline.result c.from_residual-in_err-deadline.ensures.1 in
     rw (p.1, p.2) (record {
       told = λ rule nodes around from r. let s : Spot = spot rule nodes around b in
-          part_of held-pattern.Pattern Pattern held.Rule Rule pure_pattern pure_rule (pattern_items b) (rule_items s) (item (Duty k) (started s) ∷ (A ++ (mark Before ∷ []))) (λ x. duty k act x) (λ _. []) (λ x. ap (λ l. item (Duty k) (started s) ∷ l) (eq_last A (mark Before) (pattern_items b x))) (inv_deadline s k act) from _ (coming c.read-pattern-2.new.cur) (coming c.read-pattern-2.new.cur)
-          (then _ _ _ (item (Duty k) (started s) ∷ []) (A ++ (mark Before ∷ [])) r (then _ _ _ A (mark Before ∷ []) c.in-ok-act.ensures c.in-ok-expect.ensures)) c.in-err-deadline.field-0.0 c.in-err-deadline.ensures;
+          part_of held-pattern.Pattern Pattern held.Rule Rule pure_pattern pure_rule (pattern_items b) (rule_items s) (item (Duty k) (started s) ∷ (A ++ (mark Before ∷ []))) (λ x. duty k act x) (λ _. []) (λ x. ap (λ l. item (Duty k) (started s) ∷ l) (eq_last A (mark Before) (pattern_items b x))) (inv_deadline s k act) from _ (coming c.read_pattern-2.new.cur) (coming c.read_pattern-2.new.cur)
+          (then _ _ _ (item (Duty k) (started s) ∷ []) (A ++ (mark Before ∷ [])) r (then _ _ _ A (mark Before ∷ []) c.in_ok-act.ensures c.in_ok-expect.ensures)) c.in_err-deadline.field-0.0 c.in_err-deadline.ensures;
       alone = tt;
     })
 
@@ -60,10 +60,10 @@ pub returns : goal.returns
 returns c =
     let b = c.args.bound in
     let k = c.args.kind in
-    let A = pattern_items b (pure_pattern c.in-ok-act.act) in
-    let D = pattern_items b (pure_pattern c.in-ok-deadline.deadline) in
+    let A = pattern_items b (pure_pattern c.in_ok-act.act) in
+    let D = pattern_items b (pure_pattern c.in_ok-deadline.deadline) in
     record {
       told = λ rule nodes around from r. let s : Spot = spot rule nodes around b in
-          then _ _ _ (item (Duty k) (started s) ∷ []) (A ++ (mark Before ∷ D)) r (then _ _ _ A (mark Before ∷ D) c.in-ok-act.ensures (then _ _ _ (mark Before ∷ []) D c.in-ok-expect.ensures c.in-ok-deadline.ensures));
+          then _ _ _ (item (Duty k) (started s) ∷ []) (A ++ (mark Before ∷ D)) r (then _ _ _ A (mark Before ∷ D) c.in_ok-act.ensures (then _ _ _ (mark Before ∷ []) D c.in_ok-expect.ensures c.in_ok-deadline.ensures));
       alone = refl;
     }

@@ -13,18 +13,18 @@ use Rattle.book.proofs.Compose.{one, bad-first, wrong_first, faulty_first}
 use Rattle.book.proofs.Nested.{expected_goes, opening-goes}
 use Rattle.book.proofs.reader.read_joint.Goals as goal
 
-pub returns-in-err-seen : goal.returns-in-err-seen
-returns-in-err-seen c =
-    let nx = c.in-err-seen.ensures in
-    let p = err_from_is_err_and c.from-residual.result c.from-residual.ensures.1 in
-    rw (p.1, p.2) (bad-first BracketKind joint_items (any BracketKind) kinds.Else _ nx.0 c.in-err-seen.field-0.0 nx.1)
+pub returns-in_err-seen : goal.returns-in_err-seen
+returns-in_err-seen c =
+    let nx = c.in_err-seen.ensures in
+    let p = err_from_is_err_and c.from_residual.result c.from_residual.ensures.1 in
+    rw (p.1, p.2) (bad-first BracketKind joint_items (any BracketKind) kinds.Else _ nx.0 c.in_err-seen.field-0.0 nx.1)
 
-pub returns-in-default : goal.returns-in-default
-returns-in-default c =
-    let nx = c.in-ok-seen.ensures in
-    wrong_first BracketKind joint_items (any BracketKind) kinds.Else _ nx.0 c.in-ok-seen.seen nx.1 (λ x u more f e. c.in-default.not-Joint x (cc))
+pub returns-in_default : goal.returns-in_default
+returns-in_default c =
+    let nx = c.in_ok-seen.ensures in
+    wrong_first BracketKind joint_items (any BracketKind) kinds.Else _ nx.0 c.in_ok-seen.seen nx.1 (λ x u more f e. c.in_default.not-Joint x (cc))
 
 pub returns : goal.returns
 returns c =
-    let nx = c.in-ok-seen.ensures in
-    one _ nx.0 _ c.in-ok-seen.seen (mark (Joint c.in-Joint.kind)) nx.1 nx.2 c.in-Joint.is refl refl
+    let nx = c.in_ok-seen.ensures in
+    one _ nx.0 _ c.in_ok-seen.seen (mark (Joint c.in-Joint.kind)) nx.1 nx.2 c.in-Joint.is refl refl

@@ -12,17 +12,17 @@ use Rattle.book.proofs.whole.read_book.Goals as goal
 pub returns-then-text-gt-BYTES : goal.returns-then-text-gt-BYTES
 returns-then-text-gt-BYTES c = answered c.args.text.now (Err (Faulty _)) (long c.if-text-gt-BYTES.true)
 
-pub returns-in-err-read-rules : goal.returns-in-err-read-rules
-returns-in-err-read-rules c =
-    let p = err_from_is_err_and c.from-residual.result c.from-residual.ensures.1 in
-    rw (p.1, p.2) (whole_failed c.args.text.now (coming c.start-cur.result) (vec_items c.new-rules.result) (vec_items c.read-rules.new.out) (ap meanings c.start-cur.ensures) c.if-text-gt-BYTES.false c.in-err-read-rules.field-0.0 c.in-err-read-rules.ensures)
+pub returns-in_err-read_rules : goal.returns-in_err-read_rules
+returns-in_err-read_rules c =
+    let p = err_from_is_err_and c.from_residual.result c.from_residual.ensures.1 in
+    rw (p.1, p.2) (whole_failed c.args.text.now (coming c.start-cur.result) (vec_items c.new-rules.result) (vec_items c.read_rules.new.out) (ap meanings c.start-cur.ensures) c.if-text-gt-BYTES.false c.in_err-read_rules.field-0.0 c.in_err-read_rules.ensures)
 
 pub of-requires : goal.of-requires
 of-requires c =
-    let a : Accepted c.args.text.now (pure_rules (vec_items c.read-rules.new.out)) = whole_book c.args.text.now (coming c.start-cur.result) (vec_items c.new-rules.result) (vec_items c.read-rules.new.out) (ap meanings c.start-cur.ensures) c.new-rules.ensures.items c.if-text-gt-BYTES.false c.in-ok-read-rules.ensures in
-    record { kept = sound-kept (items (pure_rules (vec_items c.read-rules.new.out))) a.sound; written = ∣ (c.args.text.now, a) ∣₁ }
+    let a : Accepted c.args.text.now (pure_rules (vec_items c.read_rules.new.out)) = whole_book c.args.text.now (coming c.start-cur.result) (vec_items c.new-rules.result) (vec_items c.read_rules.new.out) (ap meanings c.start-cur.ensures) c.new-rules.ensures.items c.if-text-gt-BYTES.false c.in_ok-read_rules.ensures in
+    record { kept = sound-kept (items (pure_rules (vec_items c.read_rules.new.out))) a.sound; written = ∣ (c.args.text.now, a) ∣₁ }
 
 pub returns : goal.returns
 returns c =
-    let a : Accepted c.args.text.now (pure_rules (vec_items c.read-rules.new.out)) = whole_book c.args.text.now (coming c.start-cur.result) (vec_items c.new-rules.result) (vec_items c.read-rules.new.out) (ap meanings c.start-cur.ensures) c.new-rules.ensures.items c.if-text-gt-BYTES.false c.in-ok-read-rules.ensures in
+    let a : Accepted c.args.text.now (pure_rules (vec_items c.read_rules.new.out)) = whole_book c.args.text.now (coming c.start-cur.result) (vec_items c.new-rules.result) (vec_items c.read_rules.new.out) (ap meanings c.start-cur.ensures) c.new-rules.ensures.items c.if-text-gt-BYTES.false c.in_ok-read_rules.ensures in
     answered c.args.text.now (Ok c.of.result) (subst (λ v. Accepted c.args.text.now (pure_rules (vec_items v))) (sym c.of.ensures) a)

@@ -2,38 +2,38 @@ use Rattle.std.proofs.Common.{sym, refl, ap, ◌∙◌}
 use Rattle.book.specs.Text.{letter_of}
 use Rattle.book.proofs.words.letter_terminal.Goals as goal
 
-pub returns-then-is-word : goal.returns-then-is-word
+pub returns-then-is_word : goal.returns-then-is_word
 unfolding letter_of
-returns-then-is-word c = simp (sym c.if-is-word.ensures)
+returns-then-is_word c = simp (sym c.if-is_word.ensures)
 
-pub returns-then-is-word-2 : goal.returns-then-is-word-2
+pub returns-then-is_word-2 : goal.returns-then-is_word-2
 unfolding letter_of
-returns-then-is-word-2 c = simp (sym c.if-is-word.ensures, sym c.if-is-word-2.ensures)
+returns-then-is_word-2 c = simp (sym c.if-is_word.ensures, sym c.if-is_word-2.ensures)
 
-pub returns-then-is-word-3 : goal.returns-then-is-word-3
+pub returns-then-is_word-3 : goal.returns-then-is_word-3
 unfolding letter_of
-returns-then-is-word-3 c = simp (sym c.if-is-word.ensures, sym c.if-is-word-2.ensures, sym c.if-is-word-3.ensures)
+returns-then-is_word-3 c = simp (sym c.if-is_word.ensures, sym c.if-is_word-2.ensures, sym c.if-is_word-3.ensures)
 
-pub returns-then-is-word-4 : goal.returns-then-is-word-4
+pub returns-then-is_word-4 : goal.returns-then-is_word-4
 unfolding letter_of
-returns-then-is-word-4 c = simp (sym c.if-is-word.ensures, sym c.if-is-word-2.ensures, sym c.if-is-word-3.ensures, sym c.if-is-word-4.ensures)
+returns-then-is_word-4 c = simp (sym c.if-is_word.ensures, sym c.if-is_word-2.ensures, sym c.if-is_word-3.ensures, sym c.if-is_word-4.ensures)
 
-pub returns-then-is-word-5 : goal.returns-then-is-word-5
+pub returns-then-is_word-5 : goal.returns-then-is_word-5
 unfolding letter_of
-returns-then-is-word-5 c = simp (sym c.if-is-word.ensures, sym c.if-is-word-2.ensures, sym c.if-is-word-3.ensures, sym c.if-is-word-4.ensures, sym c.if-is-word-5.ensures)
+returns-then-is_word-5 c = simp (sym c.if-is_word.ensures, sym c.if-is_word-2.ensures, sym c.if-is_word-3.ensures, sym c.if-is_word-4.ensures, sym c.if-is_word-5.ensures)
 
-pub returns-then-is-word-6 : goal.returns-then-is-word-6
+pub returns-then-is_word-6 : goal.returns-then-is_word-6
 unfolding letter_of
-returns-then-is-word-6 c = simp (sym c.if-is-word.ensures, sym c.if-is-word-2.ensures, sym c.if-is-word-3.ensures, sym c.if-is-word-4.ensures, sym c.if-is-word-5.ensures, sym c.if-is-word-6.ensures)
+returns-then-is_word-6 c = simp (sym c.if-is_word.ensures, sym c.if-is_word-2.ensures, sym c.if-is_word-3.ensures, sym c.if-is_word-4.ensures, sym c.if-is_word-5.ensures, sym c.if-is_word-6.ensures)
 
-pub returns-then-is-word-7 : goal.returns-then-is-word-7
+pub returns-then-is_word-7 : goal.returns-then-is_word-7
 unfolding letter_of
-returns-then-is-word-7 c = simp (sym c.if-is-word.ensures, sym c.if-is-word-2.ensures, sym c.if-is-word-3.ensures, sym c.if-is-word-4.ensures, sym c.if-is-word-5.ensures, sym c.if-is-word-6.ensures, sym c.if-is-word-7.ensures)
+returns-then-is_word-7 c = simp (sym c.if-is_word.ensures, sym c.if-is_word-2.ensures, sym c.if-is_word-3.ensures, sym c.if-is_word-4.ensures, sym c.if-is_word-5.ensures, sym c.if-is_word-6.ensures, sym c.if-is_word-7.ensures)
 
-pub returns-then-is-word-8 : goal.returns-then-is-word-8
+pub returns-then-is_word-8 : goal.returns-then-is_word-8
 unfolding letter_of
-returns-then-is-word-8 c = simp (sym c.if-is-word.ensures, sym c.if-is-word-2.ensures, sym c.if-is-word-3.ensures, sym c.if-is-word-4.ensures, sym c.if-is-word-5.ensures, sym c.if-is-word-6.ensures, sym c.if-is-word-7.ensures, sym c.if-is-word-8.ensures)
+returns-then-is_word-8 c = simp (sym c.if-is_word.ensures, sym c.if-is_word-2.ensures, sym c.if-is_word-3.ensures, sym c.if-is_word-4.ensures, sym c.if-is_word-5.ensures, sym c.if-is_word-6.ensures, sym c.if-is_word-7.ensures, sym c.if-is_word-8.ensures)
 
 pub returns : goal.returns
 unfolding letter_of
-returns c = simp (sym c.if-is-word.ensures, sym c.if-is-word-2.ensures, sym c.if-is-word-3.ensures, sym c.if-is-word-4.ensures, sym c.if-is-word-5.ensures, sym c.if-is-word-6.ensures, sym c.if-is-word-7.ensures, sym c.if-is-word-8.ensures)
+returns c = simp (sym c.if-is_word.ensures, sym c.if-is_word-2.ensures, sym c.if-is_word-3.ensures, sym c.if-is_word-4.ensures, sym c.if-is_word-5.ensures, sym c.if-is_word-6.ensures, sym c.if-is_word-7.ensures, sym c.if-is_word-8.ensures)

@@ -6,24 +6,24 @@ use Rattle.duty.proofs.judging.judge_rule.Goals as goal
 pub returns-else-not-has : goal.returns-else-not-has
 returns-else-not-has c =
     record {
-      within = c.group-len-read.ensures.within;
+      within = c.group_len-read.ensures.within;
       judged =
-          pending-judged (pure_rule c.args.rule.now) c.args.line.now c.args.number c.group-len-read.result c.args.entries.now c.args.verdict c.verdict-at.result c.step-rule-outcome.result c.args.draft.now c.step-rule-outcome.new.draft
-          c.group-len-read.ensures.within c.group-len-read.ensures.ends c.step-rule-outcome.ensures c.verdict-at.ensures c.in-Pending.is;
+          pending-judged (pure_rule c.args.rule.now) c.args.line.now c.args.number c.group_len-read.result c.args.entries.now c.args.verdict c.verdict_at.result c.step_rule-outcome.result c.args.draft.now c.step_rule-outcome.new.draft
+          c.group_len-read.ensures.within c.group_len-read.ensures.ends c.step_rule-outcome.ensures c.verdict_at.ensures c.in-Pending.is;
     }
 
-pub returns-in-default : goal.returns-in-default
-returns-in-default c =
+pub returns-in_default : goal.returns-in_default
+returns-in_default c =
     record {
       within = omega arith;
-      judged = decided-judged (pure_rule c.args.rule.now) c.args.line.now c.args.number c.args.entries.now c.args.verdict c.args.draft.now c.in-default.not-Pending;
+      judged = decided-judged (pure_rule c.args.rule.now) c.args.line.now c.args.number c.args.entries.now c.args.verdict c.args.draft.now c.in_default.not-Pending;
     }
 
 pub returns-then-not-has : goal.returns-then-not-has
 returns-then-not-has c =
     record {
-      within = c.group-len-read.ensures.within;
+      within = c.group_len-read.ensures.within;
       judged =
-          untouched_judged (pure_rule c.args.rule.now) c.args.line.now c.args.number c.group-len-read.result c.args.entries.now c.args.verdict c.args.draft.now c.extend.new.self
-          c.group-len-read.ensures.within c.group-len-read.ensures.ends c.extend.ensures (c.requires.covered c.args.line.now (sym c.if-not-has.ensures)) c.in-Pending.is;
+          untouched_judged (pure_rule c.args.rule.now) c.args.line.now c.args.number c.group_len-read.result c.args.entries.now c.args.verdict c.args.draft.now c.extend.new.self
+          c.group_len-read.ensures.within c.group_len-read.ensures.ends c.extend.ensures (c.requires.covered c.args.line.now (sym c.if-not-has.ensures)) c.in-Pending.is;
     }

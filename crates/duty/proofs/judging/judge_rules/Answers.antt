@@ -7,8 +7,8 @@ use Rattle.duty.proofs.Sets.{each_at, each_long}
 use Rattle.duty.proofs.Books.{limited_at, rolls_start, rolls_on, rolls_end}
 use Rattle.duty.proofs.judging.judge_rules.Goals as goal
 
-pub judge-rule-judged-requires : goal.judge-rule-judged-requires
-judge-rule-judged-requires c =
+pub judge_rule-judged-requires : goal.judge_rule-judged-requires
+judge_rule-judged-requires c =
     let r = c.index-rules-i.result in
     let h = limited_at c.args.rules.now c.loop-i.i r c.loop-i-test.true c.requires.size c.requires.nesting c.requires.numbers in
     let back = sym c.index-rules-i.is in
@@ -24,11 +24,11 @@ loop-i-init c = (omega arith, omega arith, refl, rolls_start c.args.rules.now c.
 
 pub loop-i-preserved : goal.loop-i-preserved
 loop-i-preserved c = (
-  omega (arith, c.judge-rule-judged.ensures.within, ap length (take_rest c.args.sheet.now c.loop-i.at), length-drop c.loop-i.at c.args.sheet.now, c.loop-i.invariant.0),
-  omega (arith, c.push-reserved.ensures.len, c.loop-i.invariant.1),
-  c.push-reserved.ensures.capacity ∙ c.loop-i.invariant.2,
-  rolls_on c.args.rules.now c.args.verdicts.now c.loop-i.i c.loop-i.at c.args.sheet.now c.args.line.now c.args.number (vec_items c.args.next.now) (vec_items c.loop-i.next) (vec_items c.push-reserved.new.self) c.args.draft.now c.loop-i.draft c.judge-rule-judged.new.draft c.index-rules-i.result _ c.judge-rule-judged.result
-      c.loop-i-test.true c.index-rules-i.is c.loop-i.invariant.3 c.judge-rule-judged.ensures.judged c.push-reserved.ensures.items,
+  omega (arith, c.judge_rule-judged.ensures.within, ap length (take_rest c.args.sheet.now c.loop-i.at), length-drop c.loop-i.at c.args.sheet.now, c.loop-i.invariant.0),
+  omega (arith, c.push_reserved.ensures.len, c.loop-i.invariant.1),
+  c.push_reserved.ensures.capacity ∙ c.loop-i.invariant.2,
+  rolls_on c.args.rules.now c.args.verdicts.now c.loop-i.i c.loop-i.at c.args.sheet.now c.args.line.now c.args.number (vec_items c.args.next.now) (vec_items c.loop-i.next) (vec_items c.push_reserved.new.self) c.args.draft.now c.loop-i.draft c.judge_rule-judged.new.draft c.index-rules-i.result _ c.judge_rule-judged.result
+      c.loop-i-test.true c.index-rules-i.is c.loop-i.invariant.3 c.judge_rule-judged.ensures.judged c.push_reserved.ensures.items,
 )
 
 pub returns : goal.returns
@@ -43,5 +43,5 @@ returns c =
 pub bounds-each-i : goal.bounds-each-i
 bounds-each-i c = omega (arith, c.loop-i-test.true, each_long c.args.each.now c.args.rules.now c.requires.covered)
 
-pub offset-bounds-each-i : goal.offset-bounds-each-i
-offset-bounds-each-i c = let lt : c.loop-i.i < length c.args.each.now = bounds-each-i c in search rules
+pub offset_bounds-each-i : goal.offset_bounds-each-i
+offset_bounds-each-i c = let lt : c.loop-i.i < length c.args.each.now = bounds-each-i c in search rules

@@ -5,4 +5,4 @@ pub returns-in-Never : goal.returns-in-Never
 returns-in-Never c t f = never-none c.args.pattern.now c.args.line.now f c.in-Never.is
 
 pub returns-in-Lines : goal.returns-in-Lines
-returns-in-Lines c t f = lines-never c.args.pattern.now c.in-Lines.binders c.in-Lines.conditions c.deref.result.now c.args.line.now f c.in-Lines.is c.deref.ensures.value (c.misses-number.ensures t f)
+returns-in-Lines c t f = lines-never c.args.pattern.now c.in-Lines.binders c.in-Lines.conditions c.deref.result.now c.args.line.now f c.in-Lines.is c.deref.ensures.value (c.misses_number.ensures t f)

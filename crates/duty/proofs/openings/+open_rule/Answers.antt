@@ -18,9 +18,9 @@ returns-in-Else t c =
     let is = ap pure_rule c.in-Bracket.is ∙ (λ i. pure.bracket c.in-Bracket.kind (pure_rule (sym c.deref.ensures i)) s) in
     let a = entry n lev false f ∷ [] in
     let b = entries r c.below.result.node c.below.result.level (start r f) in
-    adds_as c.args.draft.now c.open-rule.new.draft (a ++ b) _
+    adds_as c.args.draft.now c.open_rule.new.draft (a ++ b) _
     (opened_else (pure_rule c.args.rule.now) r s c.in-Bracket.kind n lev c.below.result.node c.below.result.level f is c.in-Else.is c.below.ensures.node c.below.ensures.level)
-    (adds_then c.args.draft.now c.write.new.self c.open-rule.new.draft a b c.write.ensures c.open-rule.ensures)
+    (adds_then c.args.draft.now c.write.new.self c.open_rule.new.draft a b c.write.ensures c.open_rule.ensures)
 
 pub returns-in-And : goal.returns-in-And
 returns-in-And t c =
@@ -33,12 +33,12 @@ returns-in-And t c =
     let a = entry n lev false f ∷ [] in
     let b = entries r c.below.result.node c.below.result.level (start r f) in
     let d = entries s c.below-in-And.result.node c.below-in-And.result.level (start s f) in
-    adds_as c.args.draft.now c.open-rule-in-And.new.draft (a ++ (b ++ d)) _
+    adds_as c.args.draft.now c.open_rule-in-And.new.draft (a ++ (b ++ d)) _
     (opened_and (pure_rule c.args.rule.now) r s c.in-Bracket.kind n lev c.below.result.node c.below.result.level c.below-in-And.result.node c.below-in-And.result.level f is c.in-And.is c.below.ensures.node c.below.ensures.level
-    (c.below-in-And.ensures.node ∙ ap (λ x. n + (1 + x)) (c.count-nodes.ensures ∙ ap (λ x. nodes (pure_rule x)) (c.deref-in-And-2.ensures ∙ sym c.deref.ensures))) c.below-in-And.ensures.level)
-    (adds_then c.args.draft.now c.write.new.self c.open-rule-in-And.new.draft a (b ++ d) c.write.ensures
-    (adds_then c.write.new.self c.open-rule.new.draft c.open-rule-in-And.new.draft b d c.open-rule.ensures c.open-rule-in-And.ensures))
+    (c.below-in-And.ensures.node ∙ ap (λ x. n + (1 + x)) (c.count_nodes.ensures ∙ ap (λ x. nodes (pure_rule x)) (c.deref-in-And-2.ensures ∙ sym c.deref.ensures))) c.below-in-And.ensures.level)
+    (adds_then c.args.draft.now c.write.new.self c.open_rule-in-And.new.draft a (b ++ d) c.write.ensures
+    (adds_then c.write.new.self c.open_rule.new.draft c.open_rule-in-And.new.draft b d c.open_rule.ensures c.open_rule-in-And.ensures))
 
-pub returns-in-default : goal.returns-in-default
-returns-in-default t c =
-    adds_as c.args.draft.now c.write.new.self _ _ (opened-rest c.args.rule.now c.args.place.node c.args.place.level c.args.letters.now c.in-default.not-Bracket) c.write.ensures
+pub returns-in_default : goal.returns-in_default
+returns-in_default t c =
+    adds_as c.args.draft.now c.write.new.self _ _ (opened-rest c.args.rule.now c.args.place.node c.args.place.level c.args.letters.now c.in_default.not-Bracket) c.write.ensures

@@ -5,4 +5,4 @@ use Rattle.duty.proofs.steps.close_each.Goals as goal
 
 pub returns-in-Acts : goal.returns-in-Acts
 returns-in-Acts c n lev f ds e =
-    closed_acts (pure_rule c.args.duty.now) n lev c.args.inner f c.in-Acts.letters ds c.args.count c.args.draft.now c.open-rule.new.draft c.args.effect (sym c.in-Acts.is) c.open-rule.ensures
+    closed_acts (pure_rule c.args.duty.now) n lev c.args.inner f c.in-Acts.letters ds c.args.count c.args.draft.now c.open_rule.new.draft c.args.effect (sym c.in-Acts.is) c.open_rule.ensures

@@ -18,8 +18,8 @@ returns-in-Acts c =
     let m = effect p q f c.args.line.now in
     let n = c.args.place.node in
     let lev = c.args.place.level in
-    came_still (trigger Once p q s) n lev (once_step f m (start s)) (running (start s g)) c.args.draft.now c.open-rule.new.draft (entries s c.inside.result.node c.inside.result.level (start s g))
-    (sym (ap (λ x. once_step f x (start s)) c.in-Acts.ensures)) c.open-rule.ensures
+    came_still (trigger Once p q s) n lev (once_step f m (start s)) (running (start s g)) c.args.draft.now c.open_rule.new.draft (entries s c.inside.result.node c.inside.result.level (start s g))
+    (sym (ap (λ x. once_step f x (start s)) c.in-Acts.ensures)) c.open_rule.ensures
     (running-entries p q s n lev c.inside.result.node c.inside.result.level (start s g) c.inside.ensures.node c.inside.ensures.level)
 
 pub returns-in-Passes : goal.returns-in-Passes

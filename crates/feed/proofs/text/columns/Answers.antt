@@ -4,9 +4,9 @@ use Rattle.feed.proofs.text.columns.Goals as goal
 
 pub returns : goal.returns
 returns c =
-    let s = c.start-of-from.result in
-    let w = c.width-of.result in
+    let s = c.start_of-from.result in
+    let w = c.width_of.result in
     let item = c.args.item.now in
     let span : s + w - s ≡ w = omega arith in
-    let same : take (s + w - s) (drop s item) ≡ column c.args.field item = rw (span, c.start-of-from.ensures, c.width-of.ensures) in
-    c.read-field.ensures ∙ ap field_text same
+    let same : take (s + w - s) (drop s item) ≡ column c.args.field item = rw (span, c.start_of-from.ensures, c.width_of.ensures) in
+    c.read_field.ensures ∙ ap field_text same

@@ -12,11 +12,11 @@ returns-then-digit-lt48 c =
       | then-digit-lt48-via-else-digit-lt48+then-digit-gt57 w ↦ digit_high ds at.digit-index at.n c.loop-digit-test.true w.if-digit-gt57.true ∙ sym at.invariant.2
     ]
 
-pub overflow-mul-n : goal.overflow-mul-n
-overflow-mul-n c = omega (arith, small c.loop-digit.digit-index c.loop-digit.n (omega arith) c.loop-digit.invariant.1)
+pub overflow_mul-n : goal.overflow_mul-n
+overflow_mul-n c = omega (arith, small c.loop-digit.digit-index c.loop-digit.n (omega arith) c.loop-digit.invariant.1)
 
-pub overflow-add-n : goal.overflow-add-n
-overflow-add-n c = omega (arith, small c.loop-digit.digit-index c.loop-digit.n (omega arith) c.loop-digit.invariant.1)
+pub overflow_add-n : goal.overflow_add-n
+overflow_add-n c = omega (arith, small c.loop-digit.digit-index c.loop-digit.n (omega arith) c.loop-digit.invariant.1)
 
 pub loop-digit-preserved : goal.loop-digit-preserved
 loop-digit-preserved c =

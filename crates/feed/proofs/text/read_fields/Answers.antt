@@ -3,46 +3,46 @@ use Rattle.std.proofs.lemmas.Result.{err_from_is_err_and}
 use Rattle.feed.specs.Text.{text_fields}
 use Rattle.feed.proofs.text.read_fields.Goals as goal
 
-pub returns-in-err-time : goal.returns-in-err-time
+pub returns-in_err-time : goal.returns-in_err-time
 unfolding text_fields
-returns-in-err-time c =
-    let p = err_from_is_err_and c.from-residual.result c.from-residual.ensures.1 in
-    rw (p.1, p.2, text_fields, ← c.in-err-time.ensures)
+returns-in_err-time c =
+    let p = err_from_is_err_and c.from_residual.result c.from_residual.ensures.1 in
+    rw (p.1, p.2, text_fields, ← c.in_err-time.ensures)
 
-pub returns-in-err-kind : goal.returns-in-err-kind
+pub returns-in_err-kind : goal.returns-in_err-kind
 unfolding text_fields
-returns-in-err-kind c =
-    let p = err_from_is_err_and c.from-residual-in-err-kind.result c.from-residual-in-err-kind.ensures.1 in
-    rw (p.1, p.2, text_fields, ← c.in-ok-time.ensures, ← c.in-err-kind.ensures)
+returns-in_err-kind c =
+    let p = err_from_is_err_and c.from_residual-in_err-kind.result c.from_residual-in_err-kind.ensures.1 in
+    rw (p.1, p.2, text_fields, ← c.in_ok-time.ensures, ← c.in_err-kind.ensures)
 
-pub returns-in-err-machine : goal.returns-in-err-machine
+pub returns-in_err-machine : goal.returns-in_err-machine
 unfolding text_fields
-returns-in-err-machine c =
-    let p = err_from_is_err_and c.from-residual-in-err-machine.result c.from-residual-in-err-machine.ensures.1 in
-    rw (p.1, p.2, text_fields, ← c.in-ok-time.ensures, ← c.in-ok-kind.ensures, ← c.in-err-machine.ensures)
+returns-in_err-machine c =
+    let p = err_from_is_err_and c.from_residual-in_err-machine.result c.from_residual-in_err-machine.ensures.1 in
+    rw (p.1, p.2, text_fields, ← c.in_ok-time.ensures, ← c.in_ok-kind.ensures, ← c.in_err-machine.ensures)
 
-pub returns-in-err-crew : goal.returns-in-err-crew
+pub returns-in_err-crew : goal.returns-in_err-crew
 unfolding text_fields
-returns-in-err-crew c =
-    let p = err_from_is_err_and c.from-residual-in-err-crew.result c.from-residual-in-err-crew.ensures.1 in
-    rw (p.1, p.2, text_fields, ← c.in-ok-time.ensures, ← c.in-ok-kind.ensures, ← c.in-ok-machine.ensures, ← c.in-err-crew.ensures)
+returns-in_err-crew c =
+    let p = err_from_is_err_and c.from_residual-in_err-crew.result c.from_residual-in_err-crew.ensures.1 in
+    rw (p.1, p.2, text_fields, ← c.in_ok-time.ensures, ← c.in_ok-kind.ensures, ← c.in_ok-machine.ensures, ← c.in_err-crew.ensures)
 
-pub returns-in-err-run : goal.returns-in-err-run
+pub returns-in_err-run : goal.returns-in_err-run
 unfolding text_fields
-returns-in-err-run c =
-    let p = err_from_is_err_and c.from-residual-in-err-run.result c.from-residual-in-err-run.ensures.1 in
-    rw (p.1, p.2, text_fields, ← c.in-ok-time.ensures, ← c.in-ok-kind.ensures, ← c.in-ok-machine.ensures, ← c.in-ok-crew.ensures, ← c.in-err-run.ensures)
+returns-in_err-run c =
+    let p = err_from_is_err_and c.from_residual-in_err-run.result c.from_residual-in_err-run.ensures.1 in
+    rw (p.1, p.2, text_fields, ← c.in_ok-time.ensures, ← c.in_ok-kind.ensures, ← c.in_ok-machine.ensures, ← c.in_ok-crew.ensures, ← c.in_err-run.ensures)
 
-pub returns-in-err-reading : goal.returns-in-err-reading
+pub returns-in_err-reading : goal.returns-in_err-reading
 unfolding text_fields
-returns-in-err-reading c =
-    let p = err_from_is_err_and c.from-residual-in-err-reading.result c.from-residual-in-err-reading.ensures.1 in
-    rw (p.1, p.2, text_fields, ← c.in-ok-time.ensures, ← c.in-ok-kind.ensures, ← c.in-ok-machine.ensures, ← c.in-ok-crew.ensures, ← c.in-ok-run.ensures, ← c.in-err-reading.ensures)
+returns-in_err-reading c =
+    let p = err_from_is_err_and c.from_residual-in_err-reading.result c.from_residual-in_err-reading.ensures.1 in
+    rw (p.1, p.2, text_fields, ← c.in_ok-time.ensures, ← c.in_ok-kind.ensures, ← c.in_ok-machine.ensures, ← c.in_ok-crew.ensures, ← c.in_ok-run.ensures, ← c.in_err-reading.ensures)
 
 pub returns-in-Ok : goal.returns-in-Ok
 unfolding text_fields
-returns-in-Ok c = rw (text_fields, ← c.in-ok-time.ensures, ← c.in-ok-kind.ensures, ← c.in-ok-machine.ensures, ← c.in-ok-crew.ensures, ← c.in-ok-run.ensures, ← c.in-ok-reading.ensures, ← c.in-Ok.ensures)
+returns-in-Ok c = rw (text_fields, ← c.in_ok-time.ensures, ← c.in_ok-kind.ensures, ← c.in_ok-machine.ensures, ← c.in_ok-crew.ensures, ← c.in_ok-run.ensures, ← c.in_ok-reading.ensures, ← c.in-Ok.ensures)
 
 pub returns-in-Err : goal.returns-in-Err
 unfolding text_fields
-returns-in-Err c = rw (text_fields, ← c.in-ok-time.ensures, ← c.in-ok-kind.ensures, ← c.in-ok-machine.ensures, ← c.in-ok-crew.ensures, ← c.in-ok-run.ensures, ← c.in-ok-reading.ensures, ← c.in-Err.ensures)
+returns-in-Err c = rw (text_fields, ← c.in_ok-time.ensures, ← c.in_ok-kind.ensures, ← c.in_ok-machine.ensures, ← c.in_ok-crew.ensures, ← c.in_ok-run.ensures, ← c.in_ok-reading.ensures, ← c.in-Err.ensures)

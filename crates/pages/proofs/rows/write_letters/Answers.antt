@@ -19,7 +19,7 @@ loop-i-preserved c =
     let k = (8 * i + 8) - 8 * i in
     let wide : k ≡ 8 = omega arith in
     fills_as e _ _ _ (8 * i + k) (8 * (i + 1)) (ap (λ w. letter_cells i f ++ cell w x) wide ∙ ap (λ m. letter_cells m f) (sym (add-one i))) (omega arith)
-    (fills_with (λ w. cell w x) (λ w. length-cell w x) e (letter_cells i f) c.loop-i.out c.write-cell.new.out (8 * i) k c.loop-i.invariant (omega arith) c.write-cell.ensures)
+    (fills_with (λ w. cell w x) (λ w. length-cell w x) e (letter_cells i f) c.loop-i.out c.write_cell.new.out (8 * i) k c.loop-i.invariant (omega arith) c.write_cell.ensures)
 
 pub returns : goal.returns
 returns c =

@@ -11,12 +11,12 @@ unfolding verdict_row
 returns c =
     let e = c.args.row.now in
     let n = c.args.rule in
-    let k = c.verdict-number.result in
-    let x = c.deciding-line.result in
-    let a = fills_with (λ w. column w n) (λ w. length-column w n) e _ e c.write-column.new.out 0 4 (fills_none e) (omega arith) c.write-column.ensures in
-    let b = fills_with (λ w. column w k) (λ w. length-column w k) e _ _ c.write-column-2.new.out 4 2 a (omega arith) c.write-column-2.ensures in
-    let d = fills_with (λ w. cell w x) (λ w. length-cell w x) e _ _ c.write-cell.new.out 6 8 b (omega arith) c.write-cell.ensures in
+    let k = c.verdict_number.result in
+    let x = c.deciding_line.result in
+    let a = fills_with (λ w. column w n) (λ w. length-column w n) e _ e c.write_column.new.out 0 4 (fills_none e) (omega arith) c.write_column.ensures in
+    let b = fills_with (λ w. column w k) (λ w. length-column w k) e _ _ c.write_column-2.new.out 4 2 a (omega arith) c.write_column-2.ensures in
+    let d = fills_with (λ w. cell w x) (λ w. length-cell w x) e _ _ c.write_cell.new.out 6 8 b (omega arith) c.write_cell.ensures in
     let z = fills_byte e _ _ 14 10 d (omega arith) in
-    let number : k ≡ (verdict_numbers c.args.verdict).0 = c.verdict-number.ensures in
-    let line : x ≡ deciding_line c.args.verdict = c.deciding-line.ensures in
+    let number : k ≡ (verdict_numbers c.args.verdict).0 = c.verdict_number.ensures in
+    let line : x ≡ deciding_line c.args.verdict = c.deciding_line.ensures in
     fills_all e _ _ 15 z (omega arith) ∙ ((λ i. ((column 4 n ++ column 2 (number i)) ++ cell 8 (line i)) ++ (10 ∷ [])) ∙ simp append_assoc)

@@ -17,13 +17,13 @@ loop-i-preserved c =
     let vs = c.args.verdicts.now in
     let es = c.args.sheet.now in
     let e = c.args.out.now in
-    let n = c.rule-of-rule.result in
+    let n = c.rule_of-rule.result in
     let x = get_or es i blank in
-    let row = c.write-entry-row.new.row in
+    let row = c.write_entry_row.new.row in
     let k = (78 * i + 78) - 78 * i in
     let lt = c.loop-i-test.true in
-    let rule : n ≡ rule_of vs (last_rule vs 0 (take i es)) x = c.rule-of-rule.ensures ∙ ap (λ m. rule_of vs m x) c.loop-i.invariant.1 in
-    let is : row ≡ entry_row (rule_of vs (last_rule vs 0 (take i es)) x) x = c.write-entry-row.ensures ∙ ap (λ m. entry_row m x) rule in
+    let rule : n ≡ rule_of vs (last_rule vs 0 (take i es)) x = c.rule_of-rule.ensures ∙ ap (λ m. rule_of vs m x) c.loop-i.invariant.1 in
+    let is : row ≡ entry_row (rule_of vs (last_rule vs 0 (take i es)) x) x = c.write_entry_row.ensures ∙ ap (λ m. entry_row m x) rule in
     let long : length row ≡ k = ap length is ∙ (length-entry_row (rule_of vs (last_rule vs 0 (take i es)) x) x ∙ omega arith) in (
       fills_as e _ _ _ (78 * i + k) (78 * (i + 1)) (ap (λ y. sheet_rows vs (take i es) ++ y) is ∙ sym (sheet_rows-more vs es i blank lt)) (omega arith)
           (fills_on e (sheet_rows vs (take i es)) c.loop-i.out row (78 * i) k c.loop-i.invariant.0 long),

@@ -15,9 +15,9 @@ loop-i-preserved c =
     let i = c.loop-i.i in
     let vs = c.args.verdicts.now in
     let e = c.args.out.now in
-    let row = c.write-verdict-row.new.row in
+    let row = c.write_verdict_row.new.row in
     let k = (15 * i + 15) - 15 * i in
-    let is : row ≡ verdict_row (i + 1) (get_or vs i Pending) = c.write-verdict-row.ensures ∙ ap (λ n. verdict_row n (get_or vs i Pending)) c.rule-number.ensures in
+    let is : row ≡ verdict_row (i + 1) (get_or vs i Pending) = c.write_verdict_row.ensures ∙ ap (λ n. verdict_row n (get_or vs i Pending)) c.rule_number.ensures in
     let long : length row ≡ k = ap length is ∙ (length-verdict_row (i + 1) (get_or vs i Pending) ∙ omega arith) in
     fills_as e _ _ _ (15 * i + k) (15 * (i + 1)) (ap (λ x. verdict_rows 1 (take i vs) ++ x) is ∙ sym (verdict_rows-more vs i Pending c.loop-i-test.true)) (omega arith)
     (fills_on e (verdict_rows 1 (take i vs)) c.loop-i.out row (15 * i) k c.loop-i.invariant long)

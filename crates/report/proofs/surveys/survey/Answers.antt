@@ -10,6 +10,6 @@ loop-item-preserved g c =
     let item = c.in-Some.item in
     let looked = c.in-Some.ensures in (
       so.0 ++ (item ∷ []),
-      one_noted (waiting c.args.feed.now) so.0 (waiting c.loop-item.feed) (waiting c.drop-first.new.self) item so.1 looked.answer (c.drop-first.ensures.after ∙ ap later looked.stays),
-      c.in-ok-note.ensures so.0 so.2,
+      one_noted (waiting c.args.feed.now) so.0 (waiting c.loop-item.feed) (waiting c.drop_first.new.self) item so.1 looked.answer (c.drop_first.ensures.after ∙ ap later looked.stays),
+      c.in_ok-note.ensures so.0 so.2,
     )

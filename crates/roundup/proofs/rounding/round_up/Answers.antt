@@ -12,7 +12,7 @@ pub returns-in-Some : goal.returns-in-Some
 returns-in-Some g c =
     let found = c.in-Some.ensures in
     record {
-      answer = within g.K.Joining.join g.K.Joining.neutral c.args.results.now c.args.start c.args.count c.join-all.result c.in-Some.found.now found.0 found.1 c.join-all.ensures;
+      answer = within g.K.Joining.join g.K.Joining.neutral c.args.results.now c.args.start c.args.count c.join_all.result c.in-Some.found.now found.0 found.1 c.join_all.ensures;
       cut = both_parts g;
     }
 

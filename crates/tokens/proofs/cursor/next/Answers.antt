@@ -6,15 +6,15 @@ use Rattle.tokens.proofs.cursor.next.Goals as goal
 
 pub returns-then-place-text : goal.returns-then-place-text
 returns-then-place-text c =
-    record { rest = []; split = c.skip-blanks-place.ensures.same ∙ at_end _ _ c.if-place-text.true; goes = λ e. let z : ◌≡◌ {A = ℕ} 0 1 = cc in absurd (omega arith) }
+    record { rest = []; split = c.skip_blanks-place.ensures.same ∙ at_end _ _ c.if-place-text.true; goes = λ e. let z : ◌≡◌ {A = ℕ} 0 1 = cc in absurd (omega arith) }
 
 pub returns : goal.returns
 returns c =
-    let told = c.token-at-token.ensures in
-    let p = c.skip-blanks-place.result in
+    let told = c.token_at-token.ensures in
+    let p = c.skip_blanks-place.result in
     let bs = c.args.cur.now.text.now in
     record {
-      rest = tokens_at bs (p + c.token-len.result);
-      split = c.skip-blanks-place.ensures.same ∙ told.step ∙ ap (λ k. placed p (stretch_of c.token-at-token.result) ∷ tokens_at bs (p + k)) (sym c.token-len.ensures);
+      rest = tokens_at bs (p + c.token_len.result);
+      split = c.skip_blanks-place.ensures.same ∙ told.step ∙ ap (λ k. placed p (stretch_of c.token_at-token.result) ∷ tokens_at bs (p + k)) (sym c.token_len.ensures);
       goes = λ _. refl;
     }

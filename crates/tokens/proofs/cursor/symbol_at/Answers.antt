@@ -79,5 +79,5 @@ no_symbol b q n60 n62 n61 n43 n42 n44 n59 n40 n41 n91 n93 =
     let e93 = ne_eqb b 93 n93 in
     record { is = simp (e60, e62, e61, e43, e42, e44, e59, e40, e41, e91, e93); span = simp (e60, e62) }
 
-pub returns-in-default : goal.returns-in-default
-returns-in-default c = no_symbol c.args.b c.args.eq (omega arith) (omega arith) (omega arith) (omega arith) (omega arith) (omega arith) (omega arith) (omega arith) (omega arith) (omega arith) (omega arith)
+pub returns-in_default : goal.returns-in_default
+returns-in_default c = no_symbol c.args.b c.args.eq (omega arith) (omega arith) (omega arith) (omega arith) (omega arith) (omega arith) (omega arith) (omega arith) (omega arith) (omega arith) (omega arith)

@@ -14,5 +14,5 @@ returns-in-Faulty c = λ rs log h.
 
 pub returns-in-Sound : goal.returns-in-Sound
 returns-in-Sound c = λ rs log h.
-    subst (λ i. Admits rs log i c.admit-line.result c.admit-line.new.self) (sym c.in-Sound.is)
-    (admits_sound rs log c.in-Sound.line c.admit-line.result c.admit-line.new.self (omega (arith, h.held.counted)) (c.admit-line.ensures rs log h))
+    subst (λ i. Admits rs log i c.admit_line.result c.admit_line.new.self) (sym c.in-Sound.is)
+    (admits_sound rs log c.in-Sound.line c.admit_line.result c.admit_line.new.self (omega (arith, h.held.counted)) (c.admit_line.ensures rs log h))

@@ -4,16 +4,16 @@ use Rattle.duty.specs.Sheet.{book_sheet, Fits}
 use Rattle.auditor.proofs.Grows.{held_more, held-still, backdated, not_full, sheet-full}
 use Rattle.auditor.proofs.auditors.Auditor.admit_line.Goals as goal
 
-pub invariant-of-self : goal.invariant-of-self
-invariant-of-self c =
+pub invariant_of-self : goal.invariant_of-self
+invariant_of-self c =
     let e = c.in-Err.ensures in
     (∥∥₁_map c.args.self.now.some (λ s. (s.0, held-still _ _ _ _ s.0 s.1 e.rules e.kept)), tt)
 
-pub invariant-of-self-2 : goal.invariant-of-self-2
-invariant-of-self-2 c = (
+pub invariant_of-self-2 : goal.invariant_of-self-2
+invariant_of-self-2 c = (
   ∥∥₁_map c.args.self.now.some (λ s.
       let number : suc (length s.0) ≡ c.args.self.now.lines + 1 = omega (arith, s.1.counted) in
-      (s.0 ++ (c.args.line ∷ []), held_more _ _ _ _ s.0 c.args.line s.1 c.requires (c.in-default.ensures.taken s.0 number s.1.stands).0)),
+      (s.0 ++ (c.args.line ∷ []), held_more _ _ _ _ s.0 c.args.line s.1 c.requires (c.in_default.ensures.taken s.0 number s.1.stands).0)),
   tt,
 )
 
@@ -32,7 +32,7 @@ returns-in-Err c = λ rs log h.
 
 pub returns : goal.returns
 returns c = λ rs log h.
-    let e = c.in-default.ensures in
+    let e = c.in_default.ensures in
     let number : suc (length log) ≡ c.args.self.now.lines + 1 = omega (arith, h.held.counted) in
     let longer = log ++ (c.args.line ∷ []) in
     let t = e.taken log number h.held.stands in

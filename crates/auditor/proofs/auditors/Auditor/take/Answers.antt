@@ -10,7 +10,7 @@ returns-in-Err g c = record {
   taken = λ rs log h.
       let so = c.loop-lines.invariant.1 rs log h in
       let e = c.in-Err.ensures rs (log ++ so.lines) so.holds in
-      stopped rs c.args.count log _ c.loop-lines.lines c.loop-lines.self _ so c.in-Err.stop c.take-one.new.self _ (omega arith) (omega arith) (omega arith) e.0 e.1 e.2;
+      stopped rs c.args.count log _ c.loop-lines.lines c.loop-lines.self _ so c.in-Err.stop c.take_one.new.self _ (omega arith) (omega arith) (omega arith) e.0 e.1 e.2;
   untouched = in_bounds c.args.count (omega arith) (omega arith);
 }
 
@@ -19,7 +19,7 @@ loop-lines-preserved g c = (
   omega arith,
   λ rs log h.
       let so = c.loop-lines.invariant.1 rs log h in
-      grown rs c.args.count log _ c.loop-lines.lines c.loop-lines.self _ so c.take-one.new.self _ (c.in-default.ensures rs (log ++ so.lines) so.holds),
+      grown rs c.args.count log _ c.loop-lines.lines c.loop-lines.self _ so c.take_one.new.self _ (c.in_default.ensures rs (log ++ so.lines) so.holds),
 )
 
 pub returns : goal.returns

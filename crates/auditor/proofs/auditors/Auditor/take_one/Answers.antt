@@ -11,4 +11,4 @@ returns-in-Err g c = λ rs log h.
 pub returns-in-Ok : goal.returns-in-Ok
 returns-in-Ok g c = λ rs log h.
     let e = c.in-Ok.ensures rs log h in
-    moves rs log _ _ c.in-Some.item c.admit.new.self c.in-Some.ensures.answer (c.drop-first.ensures.after ∙ ap later c.look.ensures.stays) e.0 e.1
+    moves rs log _ _ c.in-Some.item c.admit.new.self c.in-Some.ensures.answer (c.drop_first.ensures.after ∙ ap later c.look.ensures.stays) e.0 e.1

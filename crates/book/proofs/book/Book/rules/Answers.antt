@@ -7,9 +7,9 @@ use Rattle.book.proofs.book.Book.rules.Goals as goal
 pub returns : goal.returns
 returns c =
     let b = c.args.self.now in
-    let same = c.as-slice.ensures.value in
+    let same = c.as_slice.ensures.value in
     record {
       items = same;
-      len = c.as-slice.ensures.len;
+      len = c.as_slice.ensures.len;
       within = subst (λ rs. WithinLimits (pure_rules rs)) (sym same) (keeps_limits (pure_rules (vec_items b.rules)) b.written);
     }

@@ -4,7 +4,7 @@ use Rattle.duty.proofs.drafts.Draft.push.Goals as goal
 pub returns-then-self-lt-PLACES : goal.returns-then-self-lt-PLACES
 returns-then-self-lt-PLACES c es h =
     record {
-      items = stored_items es _ _ c.args.entry c.args.self.now.count h.items h.count c.if-self-lt-PLACES.true c.push-reserved.ensures.items;
+      items = stored_items es _ _ c.args.entry c.args.self.now.count h.items h.count c.if-self-lt-PLACES.true c.push_reserved.ensures.items;
       count = stored_count es c.args.entry c.args.self.now.count h.count c.if-self-lt-PLACES.true;
     }
 

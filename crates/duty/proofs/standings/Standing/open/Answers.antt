@@ -12,9 +12,9 @@ use Rattle.duty.proofs.standings.Standing.open.Goals as goal
 pub returns : goal.returns
 returns c =
     let rs = book_rules c.args.book in
-    let empty = c.in-ok-verdicts.ensures.items in
-    let j = subst (λ x. JudgedRules (pure_rules x) [] (vec_items c.in-ok-verdicts.verdicts) (vec_items c.open-rules.new.verdicts) c.in-ok-sheet.sheet c.open-rules.new.draft) c.rules-rules.ensures.items c.open-rules.ensures.all in
-    let w = j.written [] c.in-ok-sheet.ensures in
+    let empty = c.in_ok-verdicts.ensures.items in
+    let j = subst (λ x. JudgedRules (pure_rules x) [] (vec_items c.in_ok-verdicts.verdicts) (vec_items c.open_rules.new.verdicts) c.in_ok-sheet.sheet c.open_rules.new.draft) c.rules-rules.ensures.items c.open_rules.ensures.all in
+    let w = j.written [] c.in_ok-sheet.ensures in
     let size : all_nodes rs ≤ 64 = subst (λ x. all_nodes (pure_rules x) ≤ 64) c.rules-rules.ensures.items c.rules-rules.ensures.within.size in
     let fits : length (book_sheet rs []) ≤ 256 = omega (arith, sheet_facts.fits rs size) in
     record {
@@ -22,8 +22,8 @@ returns c =
       stands = record { judged = j.judged ∙ ap (λ vs. vs ++ verdicts rs []) empty; listed = w.items ∙ take_all 256 (book_sheet rs []) fits };
     }
 
-pub invariant-of-state : goal.invariant-of-state
-invariant-of-state c =
-    let covers = subst (λ x. CoversAll c.of-rules-kinds.result (pure_rules x)) c.rules-rules.ensures.items c.of-rules-kinds.ensures in
-    let each = subst (λ x. CoversEach (vec_items c.in-ok-each.each) (pure_rules x)) c.rules-rules.ensures.items c.in-ok-each.ensures in
+pub invariant_of-state : goal.invariant_of-state
+invariant_of-state c =
+    let covers = subst (λ x. CoversAll c.of_rules-kinds.result (pure_rules x)) c.rules-rules.ensures.items c.of_rules-kinds.ensures in
+    let each = subst (λ x. CoversEach (vec_items c.in_ok-each.each) (pure_rules x)) c.rules-rules.ensures.items c.in_ok-each.ensures in
     (∣ covers ∣₁, (∣ each ∣₁, (search rules, (search rules, tt))))

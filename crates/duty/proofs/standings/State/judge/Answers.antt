@@ -5,8 +5,8 @@ use Rattle.duty.specs.Standings.{book_rules}
 use Rattle.duty.proofs.Sets.{covered_each}
 use Rattle.duty.proofs.standings.State.judge.Goals as goal
 
-pub judge-rules-requires : goal.judge-rules-requires
-judge-rules-requires c =
+pub judge_rules-requires : goal.judge_rules-requires
+judge_rules-requires c =
     let self = c.args.self.now in
     let each = covered_each (vec_items self.each) (book_rules self.book) self.each_covered in
     record {

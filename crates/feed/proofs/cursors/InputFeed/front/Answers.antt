@@ -10,5 +10,5 @@ returns g c =
     let xs = self.rest.now in
     let e = g.E.Encoding in
     let n : c.min-n.result ≡ min e.width (length xs) = c.min-n.ensures ∙ ap (λ w. min w (length xs)) c.width.ensures in
-    let read = c.item-of.ensures ∙ ap (item_of self.station self.next) c.read-read.ensures ∙ ap (λ k. item_of self.station self.next (e.reads (take k xs))) (sub-zero c.min-n.result) in
-    shown-first e.reads e.width self.station self.next xs g.met.E.Encoding.some (some_left_lem e.reads e.width self.station self.next xs c.requires) c.min-n.result c.item-of.result n read
+    let read = c.item_of.ensures ∙ ap (item_of self.station self.next) c.read-read.ensures ∙ ap (λ k. item_of self.station self.next (e.reads (take k xs))) (sub-zero c.min-n.result) in
+    shown-first e.reads e.width self.station self.next xs g.met.E.Encoding.some (some_left_lem e.reads e.width self.station self.next xs c.requires) c.min-n.result c.item_of.result n read

@@ -4,4 +4,4 @@ use Rattle.feed.proofs.cursors.InputFeed.is_dry.Goals as goal
 pub returns : goal.returns
 returns g c =
     let self = c.args.self.now in
-    dry g.E.Encoding.reads g.E.Encoding.width self.station self.next self.rest.now g.met.E.Encoding.some c.is-empty.result c.is-empty.ensures
+    dry g.E.Encoding.reads g.E.Encoding.width self.station self.next self.rest.now g.met.E.Encoding.some c.is_empty.result c.is_empty.ensures

@@ -15,7 +15,7 @@ returns g c =
     let some : 0 < e.most / e.width = le-div 1 e.most e.width law.some (omega (arith, law.fits)) in
     next_in_turn e.reads e.width (e.most / e.width) self.station self.next xs law.some some told m _ _ _ _
     (c.min-n.ensures ∙ ap (min (length xs)) c.stretch.ensures)
-    c.split-at.ensures.front
-    c.split-at.ensures.back
+    c.split_at.ensures.front
+    c.split_at.ensures.back
     c.begin-self.ensures.items
-    (c.saturating-add-self.ensures ∙ ap (λ w. counted (self.next + m / w)) c.width.ensures)
+    (c.saturating_add-self.ensures ∙ ap (λ w. counted (self.next + m / w)) c.width.ensures)

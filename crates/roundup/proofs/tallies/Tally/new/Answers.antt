@@ -4,4 +4,4 @@ use Rattle.roundup.proofs.tallies.Tally.new.Goals as goal
 
 pub returns : goal.returns
 unfolding tally_of
-returns c = same_counts _ _ c.count-of.ensures c.count-of-2.ensures c.count-of-3.ensures
+returns c = same_counts _ _ c.count_of.ensures c.count_of-2.ensures c.count_of-3.ensures

@@ -9,6 +9,6 @@ returns-then-i-eq0 g c = record {
 
 pub returns-else-i-eq0 : goal.returns-else-i-eq0
 returns-else-i-eq0 g c = record {
-  taken = λ rs log h. at_rest rs c.args.count log c.args.i _ _ _ _ _ c.if-i-eq0.false (c.take-from.ensures.taken rs log h);
-  untouched = λ out. let e = c.take-from.ensures.untouched out in (e.0, λ j. record { first = c.args.self.now.first; rest = e.1 j });
+  taken = λ rs log h. at_rest rs c.args.count log c.args.i _ _ _ _ _ c.if-i-eq0.false (c.take_from.ensures.taken rs log h);
+  untouched = λ out. let e = c.take_from.ensures.untouched out in (e.0, λ j. record { first = c.args.self.now.first; rest = e.1 j });
 }
