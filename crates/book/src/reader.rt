@@ -141,7 +141,7 @@ fn read_duty(
 }
 
 // A rule, in the book's `rule`-th rule, with `around` nodes around it. `nodes` counts those begun so far.
-#[cycle(read_bracket_read_rule_read_scoped_read_trigger)]
+#[cycle(readers)]
 pub(crate) fn read_rule(
     heap: Global,
     cur: &mut Cursor<'_>,
@@ -167,7 +167,7 @@ pub(crate) fn read_rule(
 }
 
 // The rest of a bracket.
-#[cycle(read_bracket_read_rule_read_scoped_read_trigger)]
+#[cycle(readers)]
 fn read_bracket(
     heap: Global,
     cur: &mut Cursor<'_>,
@@ -191,7 +191,7 @@ fn read_bracket(
 }
 
 // The rest of `each` or `once`.
-#[cycle(read_bracket_read_rule_read_scoped_read_trigger)]
+#[cycle(readers)]
 fn read_trigger(
     heap: Global,
     cur: &mut Cursor<'_>,
@@ -236,7 +236,7 @@ impl Drop for Scope<'_> {
 }
 
 // The duty of a trigger, where the letters `inner` are bound.
-#[cycle(read_bracket_read_rule_read_scoped_read_trigger)]
+#[cycle(readers)]
 fn read_scoped(
     heap: Global,
     cur: &mut Cursor<'_>,

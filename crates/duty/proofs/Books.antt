@@ -150,7 +150,7 @@ rolls_on rs olds i at es l num vs vs' vs'' d d' d'' r v j lt is rolls judges pus
     record {
       ahead = sym (drop-drop j.read at es) ∙ (sym (ap (drop j.read) (take_rest es at)) ∙ t.ahead);
       judged =
-          push ∙ ((λ k. g.judged k ++ (t.verdict-is k ∷ [])) ∙ (append_assoc vs (verdicts (pure_rules (take i rs)) next) (verdict (pure_rule r) next ∷ [])
+          push ∙ ((λ k. g.judged k ++ (t.verdict_is k ∷ [])) ∙ (append_assoc vs (verdicts (pure_rules (take i rs)) next) (verdict (pure_rule r) next ∷ [])
           ∙ ap (λ x. vs ++ x) (verdicts-more (take i rs) r next ∙ ap (λ x. verdicts (pure_rules x) next) (sym more))));
       written =
           adds_as d d'' _ _ (sheet-more (take i rs) r next ∙ ap (λ x. book_sheet (pure_rules x) next) (sym more)) (adds_then d d' d'' _ _ g.written t.written);

@@ -263,10 +263,10 @@ pub record Stepped (r s : Rule) (p : Place) (p' p'' : Place) (l : Line) (f : Bin
 
 module _ (r s : Rule) (p p' p'' : Place) (l : Line) (f : Bindings) (o : Open r) (o' : Open s) (d d₁ d₂ d₃ : Draft) (a b : Outcome) (w : Stepped r s p p' p'' l f o o' d d₁ d₂ d₃ a b) (v : Sides) (told : v ≡ sides a b) where
   tells : v ≡ sides (outcome (step r o l)) (outcome (step s o' l))
-  tells = told ∙ (λ i. sides (w.left-came.answer i) (w.right-came.answer i))
+  tells = told ∙ (λ i. sides (w.left_came.answer i) (w.right_came.answer i))
 
   all_written : Adds d d₃ (entry p.node p.level false f ∷ (shown (entries r p'.node p'.level) (step r o l) ++ shown (entries s p''.node p''.level) (step s o' l)))
-  all_written = adds_then d d₁ d₃ (entry p.node p.level false f ∷ []) _ w.head (adds_then d₁ d₂ d₃ _ _ w.left-came.written w.right-came.written)
+  all_written = adds_then d d₁ d₃ (entry p.node p.level false f ∷ []) _ w.head (adds_then d₁ d₂ d₃ _ _ w.left_came.written w.right_came.written)
 
   pub both_open : v ≡ of.Both → Came (bracket And r s) p.node p.level (and_step f (step r o l) (step s o' l)) d d₃ StillOpen
   unfolding entries
@@ -276,8 +276,8 @@ module _ (r s : Rule) (p p' p'' : Place) (l : Line) (f : Bindings) (o : Open r) 
       let L = p.level in
       let a₁ : p'.node ≡ suc n = omega (arith, w.left_at.0) in
       let b₁ : p'.level ≡ suc L = omega (arith, w.left_at.1) in
-      let a₂ : p''.node ≡ suc n + nodes r = omega (arith, w.right-at.0) in
-      let b₂ : p''.level ≡ suc L = omega (arith, w.right-at.1) in
+      let a₂ : p''.node ≡ suc n + nodes r = omega (arith, w.right_at.0) in
+      let b₂ : p''.level ≡ suc L = omega (arith, w.right_at.1) in
       came_still (bracket And r s) n L _ (two f t.o t.o') d d₃ _ t.is all_written
       ((λ i. entry n L false f ∷ (shown (entries r p'.node p'.level) (t.first-is i) ++ shown (entries s p''.node p''.level) (t.second_is i)))
       ∙ (λ i. entry n L false f ∷ (entries r (a₁ i) (b₁ i) t.o ++ entries s (a₂ i) (b₂ i) t.o')))

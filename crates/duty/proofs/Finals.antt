@@ -42,7 +42,7 @@ goes step i ls j again met d = let e = at_line i j (inl d) in
 goes step i ls j again missed d = let e = at_line i j (inr d) in
     record { n = 0; is = omega arith; within = omega arith; stays = λ other h. refl; not_before = λ m h. absurd (omega arith) }
 goes step i ls j again (still o) d = let s = again o d in
-    record { n = suc s.n; is = omega (arith, s.is); within = s.within; stays = s.stays; not_before = λ m h. s.not-before m (omega arith) }
+    record { n = suc s.n; is = omega (arith, s.is); within = s.within; stays = s.stays; not_before = λ m h. s.not_before m (omega arith) }
 
 stops : {A : Type 0} (step : A → Line → Left A) (o : A) (i : ℕ) (ls : List Line) (j : ℕ) → DecidedAt (run step o i ls) j → Stops step o i ls j
 stops step o i [] j d = Pending_not j d
@@ -60,7 +60,7 @@ stops {A} step o i (l ∷ ls) j d = close (goes step i ls j (λ o. stops step o 
 
         before : (m : ℕ) → m ≤ g.n → run step o i (take m (l ∷ ls)) ≡ Pending
         before zero h = refl
-        before (suc m) h = g.not-before m h
+        before (suc m) h = g.not_before m h
 
 pub finality : Finality
 finality r f log j d =
@@ -70,5 +70,5 @@ finality r f log j d =
     record {
       within = omega (arith, s.is, s.within);
       stays = λ other h. V_run r f 1 other ∙ (s.stays other (rw e at h) ∙ sym (V_run r f 1 log));
-      not_before = λ m h. V_run r f 1 (take m log) ∙ s.not-before m (omega arith);
+      not_before = λ m h. V_run r f 1 (take m log) ∙ s.not_before m (omega arith);
     }

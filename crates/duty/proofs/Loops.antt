@@ -94,7 +94,7 @@ turn_read s p below at n l d d' d'' a b goes lt w ends h =
 
 pub turn_met : (s : Rule) (p : Place) (lev : ℕ) (below : List Entry) (at n : ℕ) (ds : List (Open s)) (l : Line) (d d' d'' : Draft) (a : Outcome) → Turn s p lev below at n ds l d d' d'' a Satisfied → Going s p lev below (at + n) ds l d d'' a
 turn_met s p lev below at n ds l d d' d'' a t =
-    let e = met-is (step s t.now-one l) t.came.answer in
+    let e = met-is (step s t.now_one l) t.came.answer in
     let K = step_duties (step s) t.rest l in
     let h = together (entries s p.node p.level) t.done in
     record {
@@ -108,7 +108,7 @@ turn_met s p lev below at n ds l d d' d'' a t =
 
 pub turn_open : (s : Rule) (p : Place) (lev : ℕ) (below : List Entry) (at n : ℕ) (ds : List (Open s)) (l : Line) (d d' d'' : Draft) (a : Outcome) → Turn s p lev below at n ds l d d' d'' a StillOpen → Going s p lev below (at + n) ds l d d'' StillOpen
 turn_open s p lev below at n ds l d d' d'' a t =
-    let q = still-is (step s t.now-one l) t.came.answer in
+    let q = still-is (step s t.now_one l) t.came.answer in
     let K = step_duties (step s) t.rest l in
     let E = entries s p.node p.level in
     let h = together E t.done in
@@ -126,13 +126,13 @@ not_kept ds e = let z : ◌≡◌ {A = ℕ} 0 1 = cc in absurd (omega arith)
 
 pub turn_breached : (s : Rule) (p : Place) (lev : ℕ) (below : List Entry) (at n : ℕ) (ds : List (Open s)) (l : Line) (d d' d'' : Draft) (a : Outcome) → Turn s p lev below at n ds l d d' d'' a Breached → CameAll s p.node p.level (step_duties (step s) ds l) d d'' Breached
 turn_breached s p lev below at n ds l d d' d'' a t =
-    let e = missed-is (step s t.now-one l) t.came.answer in
+    let e = missed-is (step s t.now_one l) t.came.answer in
     let K = step_duties (step s) t.rest l in
     let is : step_duties (step s) ds l ≡ broken = t.steps ∙ ap (λ x. add_front t.done (add_duty x K)) e in
     let h = together (entries s p.node p.level) t.done in
     record {
       answer = sym (ap duties_outcome is);
-      more = h ++ shown (entries s p.node p.level) (step s t.now-one l);
+      more = h ++ shown (entries s p.node p.level) (step s t.now_one l);
       written = adds_then d d' d'' h _ t.written t.came.written;
       listed = λ ks x. not_kept ks (sym is ∙ x);
     }

@@ -22,7 +22,7 @@ use book::terms::{BracketKind, TriggerKind};
 use feed::lines::Line;
 
 // What one line leaves of a rule whose entries are this group; a decided rule writes none.
-#[cycle(step_and_step_both_step_duties_step_each_step_else_step_once_step_rule)]
+#[cycle(steps)]
 pub(crate) fn step_rule(
     rule: &Rule,
     place: Place,
@@ -53,7 +53,7 @@ pub(crate) fn step_rule(
 }
 
 // A `once` waits while its own node heads the group; else its duty runs.
-#[cycle(step_and_step_both_step_duties_step_each_step_else_step_once_step_rule)]
+#[cycle(steps)]
 fn step_once(
     start: &Pattern,
     end: &Pattern,
@@ -76,7 +76,7 @@ fn step_once(
 }
 
 // An `each` and its duties: a breach of one breaches it.
-#[cycle(step_and_step_both_step_duties_step_each_step_else_step_once_step_rule)]
+#[cycle(steps)]
 fn step_each(
     start: &Pattern,
     end: &Pattern,
@@ -106,7 +106,7 @@ fn step_each(
 
 // The duties of an `each`, oldest first: satisfied when none is left. On an idle line they
 // are only copied.
-#[cycle(step_and_step_both_step_duties_step_each_step_else_step_once_step_rule)]
+#[cycle(steps)]
 fn step_duties(
     duty: &Rule,
     place: Place,
@@ -136,7 +136,7 @@ fn step_duties(
 
 // An `else` is in its first rule while its own node heads the group; a breach there begins the second rule, which
 // is not shown the line.
-#[cycle(step_and_step_both_step_duties_step_each_step_else_step_once_step_rule)]
+#[cycle(steps)]
 fn step_else(
     first: &Rule,
     second: &Rule,
@@ -172,7 +172,7 @@ fn step_else(
 }
 
 // An `and` has both sides while its own node heads the group; else the node tells which side is left.
-#[cycle(step_and_step_both_step_duties_step_each_step_else_step_once_step_rule)]
+#[cycle(steps)]
 fn step_and(
     left: &Rule,
     right: &Rule,
@@ -199,7 +199,7 @@ fn step_and(
 
 // Both sides of an `and`. Where the line satisfies one of them, the other takes the bracket's place, and so it is
 // stepped again, at the bracket's own level.
-#[cycle(step_and_step_both_step_duties_step_each_step_else_step_once_step_rule)]
+#[cycle(steps)]
 fn step_both(
     left: &Rule,
     right: &Rule,

@@ -34,8 +34,8 @@ module _ (xs : List Item) (old new : Report) (reports : Reports xs old) where
       let long : length (sound_lines (xs ++ (Sound l ∷ []))) ≡ length (sound_lines xs) + 1 = ap length lines ∙ length-append (sound_lines xs) (l ∷ []) in
       record {
         sound = rw long (counted ∙ ap (λ n. min (n + 1) most_counted) reports.sound ∙ omega arith);
-        first_time_lem = first ∙ ap (λ t. Some (unwrap_or t l.time)) reports.first-time ∙ sym (ap first_time_of lines ∙ first_more (sound_lines xs) l);
-        last_time_lem = last ∙ sym (ap last_time_of lines ∙ last_more (sound_lines xs) l);
+        first_time = first ∙ ap (λ t. Some (unwrap_or t l.time)) reports.first_time ∙ sym (ap first_time_of lines ∙ first_more (sound_lines xs) l);
+        last_time = last ∙ sym (ap last_time_of lines ∙ last_more (sound_lines xs) l);
         faults = faults ∙ reports.faults ∙ sym (faults-more xs (Sound l ∷ []) ∙ append-nil (faults_of xs));
       }
 
@@ -44,8 +44,8 @@ module _ (xs : List Item) (old new : Report) (reports : Reports xs old) where
       let lines : sound_lines xs ≡ sound_lines (xs ++ (Faulty x ∷ [])) = sym (sound_more xs (Faulty x ∷ []) ∙ append-nil (sound_lines xs)) in
       record {
         sound = counted ∙ reports.sound ∙ ap (λ ls. min (length ls) most_counted) lines;
-        first_time_lem = first ∙ reports.first-time ∙ ap first_time_of lines;
-        last_time_lem = last ∙ reports.last-time ∙ ap last_time_of lines;
+        first_time = first ∙ reports.first_time ∙ ap first_time_of lines;
+        last_time = last ∙ reports.last_time ∙ ap last_time_of lines;
         faults = faults ∙ ap (λ zs. zs ++ (x ∷ [])) reports.faults ∙ sym (faults-more xs (Faulty x ∷ []));
       }
 

@@ -34,6 +34,6 @@ most_counted = 18446744073709551615
 -- r is the report on the items xs
 pub record Reports (xs : List Item) (r : Report) : Type 0 where
   pub sound : r.sound ≡ min (length (sound_lines xs)) most_counted
-  pub first_time_lem : r.first_time ≡ first_time_of (sound_lines xs)
-  pub last_time_lem : r.last_time ≡ last_time_of (sound_lines xs)
+  pub first_time : r.first_time ≡ first_time_of (sound_lines xs)
+  pub last_time : r.last_time ≡ last_time_of (sound_lines xs)
   pub faults : vec_items r.faults ≡ faults_of xs

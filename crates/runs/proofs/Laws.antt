@@ -100,7 +100,7 @@ final rs r a before rule behind e log j decided n p shown =
     let here : (v : Verdict) → verdict rule own ≡ v → row (length before) p ≡ verdict_row (suc (length before)) v = λ v is. ap (row (length before)) (verdicts_of_lem rs r a n p shown) ∙ row_of rs before rule behind own e ∙ ap (verdict_row (suc (length before))) is in
     record {
       stays = λ b. here (verdict rule log) (f.stays own (begun j log own f.within.1 b));
-      pends = λ m lt same. here Pending (ap (verdict rule) same ∙ f.not-before m lt);
+      pends = λ m lt same. here Pending (ap (verdict rule) same ∙ f.not_before m lt);
     }
 
 pub alike : (rs : List Rule) (r r' : Run) → AsAccount rs r → AsAccount rs r' → Alike rs r r'

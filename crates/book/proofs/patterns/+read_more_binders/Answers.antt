@@ -25,26 +25,26 @@ returns-in_err-seen t c =
     let p = err_from_is_err_and c.from_residual.result c.from_residual.ensures.1 in
     rw (p.1, p.2) (bad-first (List Binder × Bool) (more_closed c.args.fields c.args.letters) (any (List Binder × Bool)) ([], false) _ nx.0 c.in_err-seen.field-0.0 nx.1)
 
-pub returns-in_err-field : goal.returns-in_err-field
-returns-in_err-field t c =
+pub returns-in_err-field-in-Comma : goal.returns-in_err-field-in-Comma
+returns-in_err-field-in-Comma t c =
     let nx = c.in_ok-seen.ensures in
     let fs = c.args.fields in
     let ls = c.args.letters in
-    let p = err_from_is_err_and c.from_residual-in_err-field.result c.from_residual-in_err-field.ensures.1 in
+    let p = err_from_is_err_and c.from_residual-in_err-field-in-Comma.result c.from_residual-in_err-field-in-Comma.ensures.1 in
     rw (p.1, p.2) (within Field (List Binder × Bool) (field_items fs) (any Field) (more_closed fs ls) (any (List Binder × Bool)) (mark Comma ∷ []) (λ f. (binder f (Number 0) ∷ [], false)) (λ _. mark (Numeral 0) ∷ mark CloseSquare ∷ []) (λ _. refl)
     (λ y u v _ q. let i = inv_field fs ls y.0 y.1 u v q in (i.0, i.1, closed i.0 i.1, i.2)) _ _ _ _
-    (one _ nx.0 _ c.in_ok-seen.seen (mark Comma) nx.1 nx.2 c.in-Comma.is refl refl) c.in_err-field.ensures)
+    (one _ nx.0 _ c.in_ok-seen.seen (mark Comma) nx.1 nx.2 c.in-Comma.is refl refl) c.in_err-field-in-Comma.ensures)
 
-pub returns-in_err-operand : goal.returns-in_err-operand
-returns-in_err-operand t c =
+pub returns-in_err-operand-in-Comma : goal.returns-in_err-operand-in-Comma
+returns-in_err-operand-in-Comma t c =
     let nx = c.in_ok-seen.ensures in
     let fs = c.args.fields in
     let ls = c.args.letters in
-    let f = c.in_ok-field.field in
-    let p = err_from_is_err_and c.from_residual-in_err-operand.result c.from_residual-in_err-operand.ensures.1 in
+    let f = c.in_ok-field-in-Comma.field in
+    let p = err_from_is_err_and c.from_residual-in_err-operand-in-Comma.result c.from_residual-in_err-operand-in-Comma.ensures.1 in
     rw (p.1, p.2) (within Operand (List Binder × Bool) (operand_items ls) (any Operand) (more_closed fs ls) (any (List Binder × Bool)) (mark Comma ∷ item (Named f) (names fs f) ∷ []) (λ o. (binder f o ∷ [], false)) (λ _. mark CloseSquare ∷ []) (λ _. refl)
     (λ y u v _ q. let i = inv_operand fs ls f y.0 y.1 u v q in (i.0, i.1, closed i.0 i.1, i.2)) _ _ _ _
-    (then _ _ _ (mark Comma ∷ []) (field_items fs f) (one _ nx.0 _ c.in_ok-seen.seen (mark Comma) nx.1 nx.2 c.in-Comma.is refl refl) c.in_ok-field.ensures) c.in_err-operand.ensures)
+    (then _ _ _ (mark Comma ∷ []) (field_items fs f) (one _ nx.0 _ c.in_ok-seen.seen (mark Comma) nx.1 nx.2 c.in-Comma.is refl refl) c.in_ok-field-in-Comma.ensures) c.in_err-operand-in-Comma.ensures)
 
 pub returns-in-If : goal.returns-in-If
 returns-in-If t c =
@@ -70,20 +70,20 @@ read_more_binders-requires t c =
     let fs = c.args.fields in
     let ls = c.args.letters in
     let less : length (coming c.read_operand.new.cur) < length (coming c.args.cur.now) =
-    shrinks _ _ (mark Comma) (field_items fs c.in_ok-field.field ++ operand_items ls c.in_ok-operand.operand)
-    (then _ _ _ (mark Comma ∷ []) (field_items fs c.in_ok-field.field ++ operand_items ls c.in_ok-operand.operand) (one _ nx.0 _ c.in_ok-seen.seen (mark Comma) nx.1 nx.2 c.in-Comma.is refl refl)
-    (then _ _ _ (field_items fs c.in_ok-field.field) (operand_items ls c.in_ok-operand.operand) c.in_ok-field.ensures c.in_ok-operand.ensures)) in
+    shrinks _ _ (mark Comma) (field_items fs c.in_ok-field-in-Comma.field ++ operand_items ls c.in_ok-operand-in-Comma.operand)
+    (then _ _ _ (mark Comma ∷ []) (field_items fs c.in_ok-field-in-Comma.field ++ operand_items ls c.in_ok-operand-in-Comma.operand) (one _ nx.0 _ c.in_ok-seen.seen (mark Comma) nx.1 nx.2 c.in-Comma.is refl refl)
+    (then _ _ _ (field_items fs c.in_ok-field-in-Comma.field) (operand_items ls c.in_ok-operand-in-Comma.operand) c.in_ok-field-in-Comma.ensures c.in_ok-operand-in-Comma.ensures)) in
     search rules
 
-pub returns-in_ok-push : goal.returns-in_ok-push
-returns-in_ok-push t c =
+pub returns-in_ok-push-in-Comma : goal.returns-in_ok-push-in-Comma
+returns-in_ok-push-in-Comma t c =
     let nx = c.in_ok-seen.ensures in
     let fs = c.args.fields in
     let ls = c.args.letters in
-    let f = c.in_ok-field.field in
-    let o = c.in_ok-operand.operand in
+    let f = c.in_ok-field-in-Comma.field in
+    let o = c.in_ok-operand-in-Comma.operand in
     more_binders_lem fs ls f o (coming c.args.cur.now) (coming c.read_operand.new.cur) (coming c.read_more_binders.new.cur) (vec_items c.args.out.now) (vec_items c.push.new.self) (vec_items c.read_more_binders.new.out)
     (then _ _ _ (mark Comma ∷ []) (field_items fs f ++ operand_items ls o) (one _ nx.0 _ c.in_ok-seen.seen (mark Comma) nx.1 nx.2 c.in-Comma.is refl refl)
-    (then _ _ _ (field_items fs f) (operand_items ls o) c.in_ok-field.ensures c.in_ok-operand.ensures))
-    c.in_ok-push.ensures.items c.read_more_binders.result
+    (then _ _ _ (field_items fs f) (operand_items ls o) c.in_ok-field-in-Comma.ensures c.in_ok-operand-in-Comma.ensures))
+    c.in_ok-push-in-Comma.ensures.items c.read_more_binders.result
     (move_sets c.with.result (with_field fs f) c.with_operand.result (with_operand ls o) (coming c.read_operand.new.cur) (coming c.read_more_binders.new.cur) (vec_items c.push.new.self) (vec_items c.read_more_binders.new.out) c.read_more_binders.result c.with.ensures c.with_operand.ensures c.read_more_binders.ensures)

@@ -41,23 +41,23 @@ returns-in_default c =
     wrong_first (List Binder × Bool) binders_closed (any (List Binder × Bool)) ([], false) _ nx.0 c.in_ok-seen.seen nx.1
     (λ x u more f e. binders_first x.0 x.1 c.in_ok-seen.seen.terminal u more e c.in_default.not-If c.in_default.not-CloseSquare c.in_default.not-Named)
 
-pub returns-in_err-operand : goal.returns-in_err-operand
-returns-in_err-operand c =
+pub returns-in_err-operand-in-Named : goal.returns-in_err-operand-in-Named
+returns-in_err-operand-in-Named c =
     let nx = c.in_ok-seen.ensures in
     let f = c.in-Named.field in
-    let p = err_from_is_err_and c.from_residual-in_err-operand.result c.from_residual-in_err-operand.ensures.1 in
+    let p = err_from_is_err_and c.from_residual-in_err-operand-in-Named.result c.from_residual-in_err-operand-in-Named.ensures.1 in
     rw (p.1, p.2) (within Operand (List Binder × Bool) (operand_items no_letters) (any Operand) binders_closed (any (List Binder × Bool)) (item (Named f) (names no_fields f) ∷ []) (λ o. (binder f o ∷ [], false)) (λ _. mark CloseSquare ∷ []) (λ _. refl)
     (λ y u v _ q. let i = inv_first_operand f y.0 y.1 u v q in (i.0, i.1, closed i.0 i.1, i.2)) _ _ _ _
-    (one _ nx.0 _ c.in_ok-seen.seen (item (Named f) (names no_fields f)) nx.1 nx.2 c.in-Named.is refl (none_named f)) (move_operand c.none.result no_letters _ _ _ c.none.ensures c.in_err-operand.ensures))
+    (one _ nx.0 _ c.in_ok-seen.seen (item (Named f) (names no_fields f)) nx.1 nx.2 c.in-Named.is refl (none_named f)) (move_operand c.none.result no_letters _ _ _ c.none.ensures c.in_err-operand-in-Named.ensures))
 
-pub returns-in_ok-push : goal.returns-in_ok-push
-returns-in_ok-push c =
+pub returns-in_ok-push-in-Named : goal.returns-in_ok-push-in-Named
+returns-in_ok-push-in-Named c =
     let nx = c.in_ok-seen.ensures in
     let f = c.in-Named.field in
-    let o = c.in_ok-operand.operand in
+    let o = c.in_ok-operand-in-Named.operand in
     first_binders f o (coming c.args.cur.now) (coming c.read_operand.new.cur) (coming c.read_more_binders.new.cur) (vec_items c.args.out.now) (vec_items c.push.new.self) (vec_items c.read_more_binders.new.out)
     (then _ _ _ (item (Named f) (names no_fields f) ∷ []) (operand_items no_letters o) (one _ nx.0 _ c.in_ok-seen.seen (item (Named f) (names no_fields f)) nx.1 nx.2 c.in-Named.is refl (none_named f))
-    (alike _ _ (operand_items c.none.result o) (operand_items no_letters o) (ap (λ s. operand_items s o) c.none.ensures) c.in_ok-operand.ensures))
-    c.in_ok-push.ensures.items c.read_more_binders.result
+    (alike _ _ (operand_items c.none.result o) (operand_items no_letters o) (ap (λ s. operand_items s o) c.none.ensures) c.in_ok-operand-in-Named.ensures))
+    c.in_ok-push-in-Named.ensures.items c.read_more_binders.result
     (move_sets c.with.result (with_field no_fields f) c.with_operand.result (with_operand no_letters o) (coming c.read_operand.new.cur) (coming c.read_more_binders.new.cur) (vec_items c.push.new.self) (vec_items c.read_more_binders.new.out) c.read_more_binders.result
     (c.with.ensures ∙ ap (λ s. with_field s f) c.none-in-Named.ensures) (c.with_operand.ensures ∙ ap (λ s. with_operand s o) c.none-in-Named-2.ensures) c.read_more_binders.ensures)

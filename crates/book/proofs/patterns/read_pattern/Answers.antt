@@ -12,7 +12,7 @@ use Rattle.book.specs.Readers.{coming}
 use Rattle.book.proofs.Compose.{then, one, onto, bad-first, wrong_first}
 use Rattle.book.proofs.Squares.{pattern_first, binders_failed, conditions_failed, lines-read, lines_if_read}
 use Rattle.book.proofs.patterns.read_pattern.Goals as goal
-use Rattle.book.proofs.patterns.read_pattern.Goals.{then-some+in_ok-read_conditions, else-some}
+use Rattle.book.proofs.patterns.read_pattern.Goals.{then-some+in_ok-read_conditions-in-OpenSquare, else-some}
 
 pub returns-in_err-seen : goal.returns-in_err-seen
 returns-in_err-seen c =
@@ -31,36 +31,36 @@ returns-in_default c =
     wrong_first Pattern (pattern_items c.args.bound) (any Pattern) never _ nx.0 c.in_ok-seen.seen nx.1
     (λ x u more f e. pattern_first c.args.bound x c.in_ok-seen.seen.terminal u more e c.in_default.not-Never c.in_default.not-OpenSquare)
 
-pub returns-in_err-some : goal.returns-in_err-some
-returns-in_err-some c =
+pub returns-in_err-some-in-OpenSquare : goal.returns-in_err-some-in-OpenSquare
+returns-in_err-some-in-OpenSquare c =
     let nx = c.in_ok-seen.ensures in
-    let p = err_from_is_err_and c.from_residual-in_err-some.result c.from_residual-in_err-some.ensures.1 in
+    let p = err_from_is_err_and c.from_residual-in_err-some-in-OpenSquare.result c.from_residual-in_err-some-in-OpenSquare.ensures.1 in
     rw (p.1, p.2) (binders_failed c.args.bound (coming c.args.cur.now) (coming c.next.new.cur) (coming c.read_binders.new.cur) (coming c.read_binders.new.cur) (vec_items c.new-binders.result) (vec_items c.read_binders.new.out)
-    (one _ nx.0 _ c.in_ok-seen.seen (mark OpenSquare) nx.1 nx.2 c.in-OpenSquare.is refl refl) c.in_err-some.field-0.0 c.in_err-some.ensures)
+    (one _ nx.0 _ c.in_ok-seen.seen (mark OpenSquare) nx.1 nx.2 c.in-OpenSquare.is refl refl) c.in_err-some-in-OpenSquare.field-0.0 c.in_err-some-in-OpenSquare.ensures)
 
-pub returns-in_err-read_conditions : goal.returns-in_err-read_conditions
-returns-in_err-read_conditions c =
+pub returns-in_err-read_conditions-in-OpenSquare : goal.returns-in_err-read_conditions-in-OpenSquare
+returns-in_err-read_conditions-in-OpenSquare c =
     let nx = c.in_ok-seen.ensures in
-    let told = c.in_ok-some.ensures in
+    let told = c.in_ok-some-in-OpenSquare.ensures in
     let bs = told.0 in
-    let p = err_from_is_err_and c.from_residual-in_err-read_conditions.result c.from_residual-in_err-read_conditions.ensures.1 in
+    let p = err_from_is_err_and c.from_residual-in_err-read_conditions-in-OpenSquare.result c.from_residual-in_err-read_conditions-in-OpenSquare.ensures.1 in
     let items = told.1 ∙ ap (λ l. l ++ bs) c.new-binders.ensures.items in
     let inner = c.with_binders-inner.ensures ∙ ap (with_binders c.args.bound) (c.deref.ensures.value ∙ items) in
     rw (p.1, p.2) (conditions_failed c.args.bound bs c.with_binders-inner.result inner (coming c.args.cur.now) (coming c.read_binders.new.cur) (coming c.read_conditions.new.cur) (coming c.read_conditions.new.cur) (vec_items c.new-conditions.result) (vec_items c.read_conditions.new.out)
     (then _ _ _ (mark OpenSquare ∷ []) (binders_closed (bs, true)) (one _ nx.0 _ c.in_ok-seen.seen (mark OpenSquare) nx.1 nx.2 c.in-OpenSquare.is refl refl)
     (subst (λ b. Reads (coming c.next.new.cur) (binders_closed (bs, b)) (coming c.read_binders.new.cur)) c.if-some.true told.2))
-    c.in_err-read_conditions.field-0.0 c.in_err-read_conditions.ensures)
+    c.in_err-read_conditions-in-OpenSquare.field-0.0 c.in_err-read_conditions-in-OpenSquare.ensures)
 
 pub returns-after-some : goal.returns-after-some
 returns-after-some c =
     let nx = c.in_ok-seen.ensures in
-    let told = c.in_ok-some.ensures in
+    let told = c.in_ok-some-in-OpenSquare.ensures in
     let bs : List Binder = told.0 in
     let items = told.1 ∙ ap (λ l. l ++ bs) c.new-binders.ensures.items in
     let square = one _ nx.0 (coming c.next.new.cur) c.in_ok-seen.seen (mark OpenSquare) nx.1 nx.2 c.in-OpenSquare.is refl refl in
     elim c.if-some.branch [
-      | then-some+in_ok-read_conditions w ↦
-          let cs = w.in_ok-read_conditions.ensures in
+      | then-some+in_ok-read_conditions-in-OpenSquare w ↦
+          let cs = w.in_ok-read_conditions-in-OpenSquare.ensures in
           let inner = w.with_binders-inner.ensures ∙ ap (with_binders c.args.bound) (w.deref.ensures.value ∙ items) in
           lines_if_read c.args.bound bs (vec_items c.read_binders.new.out) w.with_binders-inner.result cs.0 cs.1 (vec_items c.if-some.conditions) (coming c.args.cur.now) (coming c.read_binders.new.cur) (coming c.if-some.cur) items inner
           (ap vec_items w.conditions-is ∙ cs.2 ∙ ap (λ l. l ++ (cs.0 ∷ cs.1)) c.new-conditions.ensures.items)

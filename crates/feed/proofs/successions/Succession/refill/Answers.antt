@@ -12,7 +12,7 @@ returns g c =
     let xs = self.after.now in
     let m = c.min-n.result in
     let told : self.next ≡ counted self.next = search rules in
-    let some : 0 < e.most / e.width = le-div 1 e.most e.width law.some (omega (arith, law.fits)) in
+    let some : 0 < e.most / e.width = le-div 1 e.most e.width law.some (omega (arith, g.met.E.Fitting.fits)) in
     next_in_turn e.reads e.width (e.most / e.width) self.station self.next xs law.some some told m _ _ _ _
     (c.min-n.ensures ∙ ap (min (length xs)) c.stretch.ensures)
     c.split_at.ensures.front

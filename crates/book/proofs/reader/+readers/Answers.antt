@@ -17,7 +17,7 @@ use Rattle.book.specs.Trees.{pure_pattern, pure_rule}
 use Rattle.book.proofs.Compose.{start, then, alike, part_of}
 use Rattle.book.proofs.Nested.{inside, some, eq_mid, eq_last, inv_opening, begun, begun_rest, begins, inv_act, inv_before, inv_deadline, inner, inv_start, inv_until, inv_end, inv_then, inv_duty, first, second, inv_left, inv_joint, inv_right, inv_close}
 use Rattle.book.proofs.Nested.{move_reads, move_told, move_bracket, move_trigger}
-use Rattle.book.proofs.reader.+read_bracket_read_rule_read_scoped_read_trigger.Goals as goal
+use Rattle.book.proofs.reader.+readers.Goals as goal
 
 pub read_rule-returns-in_err-kind : goal.read_rule-returns-in_err-kind
 read_rule-returns-in_err-kind t c =

@@ -1,7 +1,7 @@
 use Rattle.std.proofs.Common.{◌≡◌, ◌+◌, ◌-◌, ◌*◌, ◌≤◌, length}
 use Rattle.book.specs.Trees.{pure_rule}
 use Rattle.duty.proofs.Loops.{Goes}
-use Rattle.duty.proofs.stepping.+step_and_step_both_step_duties_step_each_step_else_step_once_step_rule.Given as goal
+use Rattle.duty.proofs.stepping.+steps.Given as goal
 
 -- a rule goes into the function of its kind, and that into rules inside, with one level less to go
 abbrev pub decreases-step_rule : goal.decreases-step_rule

@@ -9,8 +9,8 @@ use Rattle.duty.proofs.ByKind.{some-entry, duty-step, once_waits, once_runs, els
 use Rattle.duty.specs.declared.outcomes.Outcome.TheVariants.{Satisfied, Breached, Open as StillOpen}
 use Rattle.duty.proofs.Passing.{all_kept}
 use Rattle.duty.proofs.Loops as loops
-use Rattle.duty.proofs.stepping.+step_and_step_both_step_duties_step_each_step_else_step_once_step_rule.Goals as goal
-use Rattle.duty.proofs.stepping.+step_and_step_both_step_duties_step_each_step_else_step_once_step_rule.Goals.{step_duties-in-Satisfied, step_duties-in-Open}
+use Rattle.duty.proofs.stepping.+steps.Goals as goal
+use Rattle.duty.proofs.stepping.+steps.Goals.{step_duties-in-Satisfied, step_duties-in-Open}
 
 pub step_and-returns-then-node-place : goal.step_and-returns-then-node-place
 step_and-returns-then-node-place t c =
@@ -118,8 +118,8 @@ step_duties-loop-at-init t c = (omega arith, loops.starts (pure_rule c.args.duty
 
 pub step_duties-returns-in-Breached : goal.step_duties-returns-in-Breached
 step_duties-returns-in-Breached t c lev ds e =
-    loops.turn-breached (pure_rule c.args.duty.now) c.args.place lev c.args.below.now c.loop-at.at c.group_len-n.result ds c.args.line.now c.args.draft.now c.loop-at.draft c.step_rule.new.draft c.loop-at.left
-    (loops.turn-read (pure_rule c.args.duty.now) c.args.place c.args.below.now c.loop-at.at c.group_len-n.result c.args.line.now c.args.draft.now c.loop-at.draft c.step_rule.new.draft c.loop-at.left Breached c.loop-at.invariant.1 c.loop-at-test.true c.group_len-n.ensures.within c.group_len-n.ensures.ends c.in-Breached.ensures lev ds e)
+    loops.turn_breached (pure_rule c.args.duty.now) c.args.place lev c.args.below.now c.loop-at.at c.group_len-n.result ds c.args.line.now c.args.draft.now c.loop-at.draft c.step_rule.new.draft c.loop-at.left
+    (loops.turn_read (pure_rule c.args.duty.now) c.args.place c.args.below.now c.loop-at.at c.group_len-n.result c.args.line.now c.args.draft.now c.loop-at.draft c.step_rule.new.draft c.loop-at.left Breached c.loop-at.invariant.1 c.loop-at-test.true c.group_len-n.ensures.within c.group_len-n.ensures.ends c.in-Breached.ensures lev ds e)
 
 pub step_duties-loop-at-preserved : goal.step_duties-loop-at-preserved
 step_duties-loop-at-preserved t c =
@@ -127,12 +127,12 @@ step_duties-loop-at-preserved t c =
       | step_duties-in-Satisfied w ↦ (
         omega (arith, c.group_len-n.ensures.within, ap length (take_rest c.args.below.now c.loop-at.at), length-drop c.loop-at.at c.args.below.now, c.loop-at.invariant.0),
         λ lev ds e. subst (λ a. loops.Going (pure_rule c.args.duty.now) c.args.place lev c.args.below.now (c.loop-at.at + c.group_len-n.result) ds c.args.line.now c.args.draft.now c.step_rule.new.draft a) (sym w.left-is)
-            (loops.turn-met (pure_rule c.args.duty.now) c.args.place lev c.args.below.now c.loop-at.at c.group_len-n.result ds c.args.line.now c.args.draft.now c.loop-at.draft c.step_rule.new.draft c.loop-at.left (loops.turn-read (pure_rule c.args.duty.now) c.args.place c.args.below.now c.loop-at.at c.group_len-n.result c.args.line.now c.args.draft.now c.loop-at.draft c.step_rule.new.draft c.loop-at.left Satisfied c.loop-at.invariant.1 c.loop-at-test.true c.group_len-n.ensures.within c.group_len-n.ensures.ends w.in-Satisfied.ensures lev ds e)),
+            (loops.turn_met (pure_rule c.args.duty.now) c.args.place lev c.args.below.now c.loop-at.at c.group_len-n.result ds c.args.line.now c.args.draft.now c.loop-at.draft c.step_rule.new.draft c.loop-at.left (loops.turn_read (pure_rule c.args.duty.now) c.args.place c.args.below.now c.loop-at.at c.group_len-n.result c.args.line.now c.args.draft.now c.loop-at.draft c.step_rule.new.draft c.loop-at.left Satisfied c.loop-at.invariant.1 c.loop-at-test.true c.group_len-n.ensures.within c.group_len-n.ensures.ends w.in-Satisfied.ensures lev ds e)),
       )
       | step_duties-in-Open w ↦ (
         omega (arith, c.group_len-n.ensures.within, ap length (take_rest c.args.below.now c.loop-at.at), length-drop c.loop-at.at c.args.below.now, c.loop-at.invariant.0),
         λ lev ds e. subst (λ a. loops.Going (pure_rule c.args.duty.now) c.args.place lev c.args.below.now (c.loop-at.at + c.group_len-n.result) ds c.args.line.now c.args.draft.now c.step_rule.new.draft a) (sym w.left-is)
-            (loops.turn-open (pure_rule c.args.duty.now) c.args.place lev c.args.below.now c.loop-at.at c.group_len-n.result ds c.args.line.now c.args.draft.now c.loop-at.draft c.step_rule.new.draft c.loop-at.left (loops.turn-read (pure_rule c.args.duty.now) c.args.place c.args.below.now c.loop-at.at c.group_len-n.result c.args.line.now c.args.draft.now c.loop-at.draft c.step_rule.new.draft c.loop-at.left StillOpen c.loop-at.invariant.1 c.loop-at-test.true c.group_len-n.ensures.within c.group_len-n.ensures.ends w.in-Open.ensures lev ds e)),
+            (loops.turn_open (pure_rule c.args.duty.now) c.args.place lev c.args.below.now c.loop-at.at c.group_len-n.result ds c.args.line.now c.args.draft.now c.loop-at.draft c.step_rule.new.draft c.loop-at.left (loops.turn_read (pure_rule c.args.duty.now) c.args.place c.args.below.now c.loop-at.at c.group_len-n.result c.args.line.now c.args.draft.now c.loop-at.draft c.step_rule.new.draft c.loop-at.left StillOpen c.loop-at.invariant.1 c.loop-at-test.true c.group_len-n.ensures.within c.group_len-n.ensures.ends w.in-Open.ensures lev ds e)),
       )
     ]
 

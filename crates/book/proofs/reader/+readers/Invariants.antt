@@ -1,5 +1,5 @@
 use Rattle.std.proofs.Common.{◌+◌, ◌-◌, ◌*◌}
-use Rattle.book.proofs.reader.+read_bracket_read_rule_read_scoped_read_trigger.Given as goal
+use Rattle.book.proofs.reader.+readers.Given as goal
 
 -- Nodes may still stand inside one another while this falls.
 abbrev pub decreases-read_rule : goal.decreases-read_rule
