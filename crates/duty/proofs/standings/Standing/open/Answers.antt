@@ -26,4 +26,4 @@ pub invariant_of-state : goal.invariant_of-state
 invariant_of-state c =
     let covers = subst (λ x. CoversAll c.of_rules-kinds.result (pure_rules x)) c.rules-rules.ensures.items c.of_rules-kinds.ensures in
     let each = subst (λ x. CoversEach (vec_items c.in_ok-each.each) (pure_rules x)) c.rules-rules.ensures.items c.in_ok-each.ensures in
-    (∣ covers ∣₁, (∣ each ∣₁, (search rules, (search rules, tt))))
+    record { covered = ∣ covers ∣₁; each_covered = ∣ each ∣₁; judged = search rules; room = search rules }

@@ -17,8 +17,8 @@ returns c =
           let w = j.written [] c.clear-2.ensures in
           let fits : length es ≤ 256 = omega (arith, w.count, c.if-self-gt-PLACES.false) in (
             record {
-              judged = ap (λ v. vec_items v) c.swap.ensures.x-after ∙ (j.judged ∙ ap (λ vs. vs ++ verdicts (rules_of c.args.self.now) longer) c.clear.ensures.items);
-              listed = ap (λ d. vec_items d.entries) c.swap-2.ensures.x-after ∙ (w.items ∙ take_all 256 es fits);
+              judged = ap (λ v. vec_items v) c.swap.ensures.x_after ∙ (j.judged ∙ ap (λ vs. vs ++ verdicts (rules_of c.args.self.now) longer) c.clear.ensures.items);
+              listed = ap (λ d. vec_items d.entries) c.swap-2.ensures.x_after ∙ (w.items ∙ take_all 256 es fits);
             },
             fits,
           );
