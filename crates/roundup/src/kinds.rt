@@ -1,9 +1,9 @@
 // The kinds of results that are rounded up: verdicts and tallies.
-ghost use Rattle.duty.specs.Verdicts.{join as joinOfVerdicts};
+ghost use Rattle.duty.specs.Verdicts.{join as join_of_verdicts};
 ghost use Rattle.duty.specs.declared.verdicts.Verdict.TheVariants.{Satisfied};
 ghost use Rattle.roundup.specs.Tallies.{tally_of, sum_of};
 ghost use Rattle.std.proofs.Common.{rules};
-ghost use Rattle.roundup.specs.Sums.{sums-regrouped, sums-exchanged, sums-unchanged};
+ghost use Rattle.roundup.specs.Sums.{sums_regrouped, sums_exchanged, sums_unchanged};
 
 use crate::joining::Joining;
 use crate::tallies::Tally;
@@ -13,7 +13,7 @@ use duty::verdicts::Verdict;
 impl Joining for Verdict {
     ghost neutral = { Satisfied 0 };
 
-    ghost join = { joinOfVerdicts };
+    ghost join = { join_of_verdicts };
 
     ghost regrouped = { Prim.search rules };
 
@@ -36,11 +36,11 @@ impl Joining for Tally {
 
     ghost join = { sum_of };
 
-    ghost regrouped = { sums-regrouped };
+    ghost regrouped = { sums_regrouped };
 
-    ghost exchanged = { sums-exchanged };
+    ghost exchanged = { sums_exchanged };
 
-    ghost unchanged = { sums-unchanged };
+    ghost unchanged = { sums_unchanged };
 
     fn neutral() -> Tally {
         Tally::new(0, 0, 0)

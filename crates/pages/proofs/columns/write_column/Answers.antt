@@ -12,7 +12,7 @@ loop-at-init c =
 
 pub loop-at-preserved : goal.loop-at-preserved
 loop-at-preserved c =
-    aligned_on _ c.loop-at.out c.loop-at.at c.last_byte.result c.loop-at.rest c.in_front-default.result c.loop-at-test.true (omega (arith, c.loop-at.auto.at, c.loop-at.auto.out)) c.loop-at.invariant c.last_byte.ensures c.in_front-default.ensures
+    aligned_on _ c.loop-at.out c.loop-at.at c.last_byte.result c.loop-at.rest c.in_front-rest.result c.loop-at-test.true (omega (arith, c.loop-at.auto.at, c.loop-at.auto.out)) c.loop-at.invariant c.last_byte.ensures c.in_front-rest.ensures
 
 pub returns : goal.returns
 unfolding aligned
