@@ -1,8 +1,8 @@
 // The kinds of results that are rounded up: verdicts and tallies.
 ghost use Rattle.duty.specs.Verdicts.{join as join_of_verdicts};
 ghost use Rattle.duty.specs.declared.verdicts.Verdict.TheVariants.{Satisfied};
+ghost use Rattle.duty.proofs.Joins.{join_assoc, join_comm, join-neutral};
 ghost use Rattle.roundup.specs.Tallies.{tally_of, sum_of};
-ghost use Rattle.std.proofs.Common.{rules};
 ghost use Rattle.roundup.specs.Sums.{sums_regrouped, sums_exchanged, sums_unchanged};
 
 use crate::joining::Joining;
@@ -15,11 +15,11 @@ impl Joining for Verdict {
 
     ghost join = { join_of_verdicts };
 
-    ghost regrouped = { Prim.search rules };
+    ghost regrouped = { join_assoc };
 
-    ghost exchanged = { Prim.search rules };
+    ghost exchanged = { join_comm };
 
-    ghost unchanged = { Prim.search rules };
+    ghost unchanged = { join-neutral };
 
     fn neutral() -> Verdict {
         Verdict::Satisfied(0)

@@ -5,8 +5,8 @@ use Rattle.auditor.proofs.Grows.{log-full, log_open}
 use Rattle.auditor.proofs.Takings.{admits_sound}
 use Rattle.auditor.proofs.auditors.Auditor.admit.Goals as goal
 
-pub returns-then-self-ge-LOG-LINES : goal.returns-then-self-ge-LOG-LINES
-returns-then-self-ge-LOG-LINES c = λ rs log h. (log-full rs log c.args.item (omega (arith, h.held.counted)), h)
+pub returns-then-self-ge-LOG_LINES : goal.returns-then-self-ge-LOG_LINES
+returns-then-self-ge-LOG_LINES c = λ rs log h. (log-full rs log c.args.item (omega (arith, h.held.counted)), h)
 
 pub returns-in-Faulty : goal.returns-in-Faulty
 returns-in-Faulty c = λ rs log h.

@@ -7,15 +7,14 @@ use Rattle.auditor.proofs.auditors.Auditor.admit_line.Goals as goal
 pub invariant_of-self : goal.invariant_of-self
 invariant_of-self c =
     let e = c.in-Err.ensures in
-    (∥∥₁_map c.args.self.now.some (λ s. (s.0, held-still _ _ _ _ s.0 s.1 e.rules e.kept)), tt)
+    record { some = ∥∥₁_map c.args.self.now.some (λ s. (s.0, held-still _ _ _ _ s.0 s.1 e.rules e.kept)) }
 
 pub invariant_of-self-2 : goal.invariant_of-self-2
-invariant_of-self-2 c = (
-  ∥∥₁_map c.args.self.now.some (λ s.
+invariant_of-self-2 c = record {
+  some = ∥∥₁_map c.args.self.now.some (λ s.
       let number : suc (length s.0) ≡ c.args.self.now.lines + 1 = omega (arith, s.1.counted) in
-      (s.0 ++ (c.args.line ∷ []), held_more _ _ _ _ s.0 c.args.line s.1 c.requires (c.in_default.ensures.taken s.0 number s.1.stands).0)),
-  tt,
-)
+      (s.0 ++ (c.args.line ∷ []), held_more _ _ _ _ s.0 c.args.line s.1 c.requires (c.in_default.ensures.taken s.0 number s.1.stands).0));
+}
 
 pub returns-then-line-self : goal.returns-then-line-self
 returns-then-line-self c = λ rs log h. (backdated rs log c.args.line (omega (arith, h.held.timed, c.if-line-self.true)), h)
