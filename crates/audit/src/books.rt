@@ -86,7 +86,7 @@ pub fn told(rt: &HostRuntime, text: &[u8], refusal: Refusal) -> anyhow::Result<S
 // The listing of the book, or its refusal.
 pub fn list_book(rt: &HostRuntime, paths: &[String]) -> anyhow::Result<Status> {
     let [path] = paths else {
-        return Err(USAGE.into());
+        return Err(anyhow!("{USAGE}"));
     };
     let text = bytes_of(rt, path.as_str())?;
     match read_book(rt.alloc(), text.as_slice()) {

@@ -15,6 +15,7 @@ use auditing::audit;
 use books::list_book;
 use recording::report_on;
 use std::env;
+use std::process::ExitCode;
 use tallying::tally;
 use witness::compare_makes;
 
@@ -38,17 +39,17 @@ fn run(rt: &HostRuntime) -> anyhow::Result<Status> {
             "witness" => compare_makes(rt, paths),
             _ => audit(rt, args.as_slice()),
         },
-        [] => Err(USAGE.into()),
+        [] => Err(anyhow!("{USAGE}")),
     }
 }
 
-fn main(rt: HostRuntime) -> anyhow::Result<()> {
+fn main(rt: HostRuntime) -> ExitCode {
     match run(&rt) {
-        Ok(Status::Success) => Ok(()),
-        Ok(Status::Refused) => Err(anyhow!("refused")),
+        Ok(Status::Success) => ExitCode::SUCCESS,
+        Ok(Status::Refused) => ExitCode::FAILURE,
         Err(e) => {
             let _ = eprintln!(rt; "audit: {e}");
-            Err(e)
+            ExitCode::FAILURE
         }
     }
 }

@@ -42,6 +42,6 @@ pub fn report_on(rt: &HostRuntime, logs: &[String]) -> anyhow::Result<Status> {
             let right_feed = opened(right_text.as_slice(), 2)?;
             print_report(rt, &mut Joined::new(left_feed, right_feed))
         }
-        _ => Err(USAGE.into()),
+        _ => Err(anyhow!("{USAGE}")),
     }
 }

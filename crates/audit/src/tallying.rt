@@ -35,10 +35,10 @@ fn print_tally(
     }
     let count = verdicts.len().saturating_sub(start);
     let Ok(tally) = round_up(tallies.as_slice(), start, count) else {
-        return Err(OUTSIDE.into());
+        return Err(anyhow!("{OUTSIDE}"));
     };
     let Ok(verdict) = round_up(verdicts, start, count) else {
-        return Err(OUTSIDE.into());
+        return Err(anyhow!("{OUTSIDE}"));
     };
     let satisfied = tally.satisfied();
     let breached = tally.breached();
@@ -71,7 +71,7 @@ fn tally_one(
 // The tally of each recording, and of all together.
 pub fn tally(rt: &HostRuntime, paths: &[String]) -> anyhow::Result<Status> {
     let [book, first, rest @ ..] = paths else {
-        return Err(USAGE.into());
+        return Err(anyhow!("{USAGE}"));
     };
     let book = bytes_of(rt, book.as_str())?;
     let mut all: Vec<Verdict> = Vec::new(rt.alloc());

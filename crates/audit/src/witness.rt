@@ -74,7 +74,7 @@ fn compare(rt: &HostRuntime, turns: &[Turn], count: &TurnCount) -> anyhow::Resul
 // The first recording as text, the second as packed words.
 pub fn compare_makes(rt: &HostRuntime, paths: &[String]) -> anyhow::Result<Status> {
     let [book, left, right] = paths else {
-        return Err(USAGE.into());
+        return Err(anyhow!("{USAGE}"));
     };
     let book = bytes_of(rt, book.as_str())?;
     let left = bytes_of(rt, left.as_str())?;
