@@ -42,8 +42,39 @@ fn verdict_at(outcome: Outcome, number: u32) -> Verdict
     }
 }
 
-// A decided rule stays so, and has no entries. A rule that the line's kind does not concern keeps its entries.
+// A decided rule stays so, and has no entries.
 fn judge_rule(
+    rule: &Rule,
+    verdict: Verdict,
+    entries: &[Entry],
+    line: &Line,
+    number: u32,
+    draft: &mut Draft,
+) -> Judged
+    requires size { nodes (pure_rule rule.now) ≤ 64 }
+    requires nesting { depth (pure_rule rule.now) ≤ 8 }
+    requires numbers { rule_number (pure_rule rule.now) ≤ 9999999 }
+    ensures within { result.read ≤ length entries.now }
+    ensures judged { Judges (pure_rule rule.now) verdict entries.now line.now number draft.old result draft.new }
+{
+    match verdict {
+        Verdict::Pending => {
+            let read = group_len(entries);
+            let outcome = step_rule(rule, RULE, &entries[0..read], line, draft);
+            Judged {
+                verdict: verdict_at(outcome, number),
+                read,
+            }
+        }
+        decided => Judged {
+            verdict: decided,
+            read: 0,
+        },
+    }
+}
+
+// The same, where `kinds` has the kinds of line that concern the rule: a line of another kind leaves its entries.
+fn judge_concerned(
     rule: &Rule,
     kinds: &Kinds,
     verdict: Verdict,
@@ -59,18 +90,14 @@ fn judge_rule(
     ensures within { result.read ≤ length entries.now }
     ensures judged { Judges (pure_rule rule.now) verdict entries.now line.now number draft.old result draft.new }
 {
+    if kinds.has(line.kind) {
+        return judge_rule(rule, verdict, entries, line, number, draft);
+    }
     match verdict {
         Verdict::Pending => {
             let read = group_len(entries);
-            if !kinds.has(line.kind) {
-                draft.extend(&entries[0..read]);
-                return Judged { verdict, read };
-            }
-            let outcome = step_rule(rule, RULE, &entries[0..read], line, draft);
-            Judged {
-                verdict: verdict_at(outcome, number),
-                read,
-            }
+            draft.extend(&entries[0..read]);
+            Judged { verdict, read }
         }
         decided => Judged {
             verdict: decided,
@@ -81,6 +108,33 @@ fn judge_rule(
 
 // Writes the verdicts of the rules and their entries after one more line.
 pub(crate) fn judge_rules(
+    rules: &[Rule],
+    verdicts: &[Verdict],
+    sheet: &[Entry],
+    line: &Line,
+    number: u32,
+    next: &mut Vec<Verdict>,
+    draft: &mut Draft,
+)
+    requires size { all_nodes (pure_rules rules.now) ≤ 64 }
+    requires nesting { deepest (pure_rules rules.now) ≤ 8 }
+    requires numbers { largest (pure_rules rules.now) ≤ 9999999 }
+    requires judged { length verdicts.now ≡ length rules.now }
+    requires room { vec_len next.old + length rules.now ≤ vec_capacity next.old }
+    ensures len { vec_len next.new ≡ vec_len next.old + length rules.now }
+    ensures capacity { vec_capacity next.new ≡ vec_capacity next.old }
+    ensures all { JudgesAll (pure_rules rules.now) verdicts.now sheet.now line.now number next.old.items draft.old next.new.items draft.new }
+{
+    let mut at = 0;
+    for i in 0..rules.len() {
+        let judged = judge_rule(&rules[i], verdicts[i], &sheet[at..], line, number, draft);
+        next.push_reserved(judged.verdict);
+        at += judged.read;
+    }
+}
+
+// The same, where `each` has the kinds of line that concern each rule.
+pub(crate) fn judge_concerned_rules(
     rules: &[Rule],
     each: &[Kinds],
     verdicts: &[Verdict],
@@ -103,7 +157,7 @@ pub(crate) fn judge_rules(
     let mut at = 0;
     for i in 0..rules.len() {
         let entries = &sheet[at..];
-        let judged = judge_rule(
+        let judged = judge_concerned(
             &rules[i],
             &each[i],
             verdicts[i],

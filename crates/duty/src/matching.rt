@@ -73,6 +73,43 @@ fn all_hold(conditions: &[Condition], letters: &[Option<u32>; 8]) -> bool
     true
 }
 
+// The letters with what one binder adds, or none where it does not agree with the line.
+fn agreed_letters(
+    binder: Binder,
+    line: &Line,
+    letters: [Option<u32>; 8],
+) -> Option<[Option<u32>; 8]>
+    ensures { result ≡ agrees binder.operand (value line.now binder.field) letters }
+{
+    let value = line.value(binder.field);
+    match binder.operand {
+        Operand::Number(number) => { if number == value { Some(letters) } else { None } }
+        Operand::Bound(letter) => match letters[letter.index()] {
+            Some(number) => { if number == value { Some(letters) } else { None } }
+            None => {
+                let mut enlarged = letters;
+                enlarged[letter.index()] = Some(value);
+                Some(enlarged)
+            }
+        },
+    }
+}
+
+// The letters with what the binders add, or none where one does not agree with the line.
+fn bound_letters(
+    binders: &[Binder],
+    line: &Line,
+    letters: [Option<u32>; 8],
+) -> Option<[Option<u32>; 8]>
+    ensures { result ≡ bind binders.now line.now letters }
+{
+    let mut bound = letters;
+    for binder in binders {
+        bound = agreed_letters(*binder, line, bound)?;
+    }
+    Some(bound)
+}
+
 // Binds what a binder adds to the letters, if it agrees with the line.
 fn binds(binder: Binder, line: &Line, letters: &mut [Option<u32>; 8]) -> bool
     ensures { (if result then Some letters.new else None) ≡ agrees binder.operand (value line.now binder.field) letters.old }

@@ -7,7 +7,7 @@ ghost use Rattle.duty.specs.Standings.{book_rules, Opened, Stands, Taken, Kept, 
 
 use crate::drafts::{Draft, PLACES};
 use crate::entries::Entry;
-use crate::judging::{judge_rules, open_rules};
+use crate::judging::{judge_concerned_rules, open_rules};
 use crate::kinds::Kinds;
 use crate::standings::{SheetFull, Standing, State};
 use crate::verdicts::Verdict;
@@ -23,7 +23,7 @@ impl State {
         ensures capacity { vec_capacity next.new ≡ vec_capacity next.old }
         ensures all { JudgesAll (book_rules self.now.book) self.now.verdicts.items self.now.sheet.entries.items line.now number next.old.items draft.old next.new.items draft.new }
     {
-        judge_rules(
+        judge_concerned_rules(
             self.book.rules(),
             &self.each,
             &self.verdicts,

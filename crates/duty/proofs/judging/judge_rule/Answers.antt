@@ -1,10 +1,10 @@
-use Rattle.std.proofs.Common.{sym, arith}
 use Rattle.book.specs.Trees.{pure_rule}
-use Rattle.duty.proofs.Books.{pending-judged, untouched_judged, decided-judged}
+use Rattle.std.proofs.Common.{arith}
+use Rattle.duty.proofs.Books.{pending-judged, decided-judged}
 use Rattle.duty.proofs.judging.judge_rule.Goals as goal
 
-pub returns-else-not-has : goal.returns-else-not-has
-returns-else-not-has c =
+pub returns-in-Pending : goal.returns-in-Pending
+returns-in-Pending c =
     record {
       within = c.group_len-read.ensures.within;
       judged =
@@ -17,13 +17,4 @@ returns-in_default c =
     record {
       within = omega arith;
       judged = decided-judged (pure_rule c.args.rule.now) c.args.line.now c.args.number c.args.entries.now c.args.verdict c.args.draft.now c.in_default.not-Pending;
-    }
-
-pub returns-then-not-has : goal.returns-then-not-has
-returns-then-not-has c =
-    record {
-      within = c.group_len-read.ensures.within;
-      judged =
-          untouched_judged (pure_rule c.args.rule.now) c.args.line.now c.args.number c.group_len-read.result c.args.entries.now c.args.verdict c.args.draft.now c.extend.new.self
-          c.group_len-read.ensures.within c.group_len-read.ensures.ends c.extend.ensures (c.requires.covered c.args.line.now (sym c.if-not-has.ensures)) c.in-Pending.is;
     }

@@ -1,9 +1,7 @@
-use Rattle.std.proofs.Common.{◌≡◌, ◌<◌, ◌≤◌, [], length, get_or, vec_items, sym, refl, ap, ◌∙◌, subst, arith, length-drop, rules}
+use Rattle.std.proofs.Common.{◌≡◌, ◌≤◌, length, get_or, vec_items, sym, refl, ap, ◌∙◌, subst, arith, length-drop, rules}
 use Rattle.std.proofs.lemmas.List.{take_rest}
 use Rattle.book.specs.Sizes.{nodes, depth, rule_number}
 use Rattle.book.specs.Trees.{pure_rule}
-use Rattle.duty.specs.Kinds.{Covers}
-use Rattle.duty.proofs.Sets.{each_at, each_long}
 use Rattle.duty.proofs.Books.{limited_at, rolls_start, rolls_on, rolls_end}
 use Rattle.duty.proofs.judging.judge_rules.Goals as goal
 
@@ -16,7 +14,6 @@ judge_rule-judged-requires c =
       size = subst (λ x. nodes (pure_rule x) ≤ 64) back h.0;
       nesting = subst (λ x. depth (pure_rule x) ≤ 8) back h.1;
       numbers = subst (λ x. rule_number (pure_rule x) ≤ 9999999) back h.2;
-      covered = subst (λ x. Covers (get_or c.args.each.now c.loop-i.i (record { listed = [] })) (pure_rule x)) back (each_at c.args.each.now c.args.rules.now c.loop-i.i (record { listed = [] }) r c.requires.covered c.loop-i-test.true);
     }
 
 pub loop-i-init : goal.loop-i-init
@@ -39,9 +36,3 @@ returns c =
       capacity = c.loop-i.invariant.2;
       all = rolls_end c.args.rules.now c.args.verdicts.now c.loop-i.i c.loop-i.at c.args.sheet.now c.args.line.now c.args.number (vec_items c.args.next.now) (vec_items c.loop-i.next) c.args.draft.now c.loop-i.draft c.loop-i-test.false c.loop-i.invariant.3;
     }
-
-pub bounds-each-i : goal.bounds-each-i
-bounds-each-i c = omega (arith, c.loop-i-test.true, each_long c.args.each.now c.args.rules.now c.requires.covered)
-
-pub offset_bounds-each-i : goal.offset_bounds-each-i
-offset_bounds-each-i c = let lt : c.loop-i.i < length c.args.each.now = bounds-each-i c in search rules

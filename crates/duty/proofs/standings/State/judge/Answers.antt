@@ -5,8 +5,8 @@ use Rattle.duty.specs.Standings.{book_rules}
 use Rattle.duty.proofs.Sets.{covered_each}
 use Rattle.duty.proofs.standings.State.judge.Goals as goal
 
-pub judge_rules-requires : goal.judge_rules-requires
-judge_rules-requires c =
+pub judge_concerned_rules-requires : goal.judge_concerned_rules-requires
+judge_concerned_rules-requires c =
     let self = c.args.self.now in
     let each = covered_each (vec_items self.each) (book_rules self.book) self.each_covered in
     record {
