@@ -1,16 +1,14 @@
 -- The longest acceptable beginning, and the account of a take.
-use Rattle.std.proofs.Common.{◌≡◌, ℕ, zero, suc, ◌+◌, ◌<◌, ◌≤◌, Bool, true, false, cond, ◌&&◌, eqb, ltb, leb, List, [], ◌∷◌, ◌++◌, map, length, take, drop, Some, None, Option, unwrap_or, sym, refl, ap, ◌∙◌, subst, append_assoc, append-nil, arith, length-append, take_all, eq-eqb, ne_eqb, le-leb}
-use lib.ListN.{length-map}
-use lib.Seq.{take-append-le}
+use Rattle.std.proofs.Common.{◌≡◌, ℕ, ◌<◌, ◌≤◌, List, [], ◌∷◌, ◌++◌, map, length, take, drop, Some, None, Option, unwrap_or, refl, ap, ◌∙◌, arith, eq-eqb, ne_eqb, le-leb}
 use Rattle.std.specs.Option.{option_map}
 use Rattle.feed.specs.declared.faults.Item.{Item}
 use Rattle.feed.specs.declared.faults.Item.TheVariants as item
 use Rattle.feed.specs.declared.lines.Line.{Line}
 use Rattle.book.specs.Rules.{Rule}
-use Rattle.auditor.specs.Account.{item_refusal, refusal, stop_at, unless, acceptable, Drawn, drawing, takes}
+use Rattle.auditor.specs.Account.{refusal, stop_at, unless, acceptable, drawing, takes}
 use Rattle.auditor.specs.declared.answers.Refusal.{Refusal}
 use Rattle.auditor.specs.declared.answers.Stop.{Stop}
-use Rattle.auditor.specs.declared.answers.Stop.TheVariants.{Done, Dry, Refused}
+use Rattle.auditor.specs.declared.answers.Stop.TheVariants.{Done, Refused}
 
 stops : (o : Option Refusal) (s : Stop) (ls : List Line) → option_map Refused o ≡ Some s → unless o ls ≡ []
 stops None s ls e = let z : ◌≡◌ {A = ℕ} 0 1 = cc in absurd (omega arith)

@@ -1,5 +1,5 @@
 -- What one more line does to what is kept of a log.
-use Rattle.std.proofs.Common.{◌≡◌, ℕ, ◌+◌, ◌<◌, ◌≤◌, Bool, true, false, cond, ltb, leb, List, [], ◌∷◌, ◌++◌, length, Some, None, Option, sym, refl, ap, ◌∙◌, subst, arith, length-append, le-ltb, lt-ltb, le-leb}
+use Rattle.std.proofs.Common.{◌≡◌, ℕ, ◌+◌, ◌<◌, ◌≤◌, List, [], ◌∷◌, ◌++◌, length, Some, None, sym, refl, ap, ◌∙◌, arith, length-append, le-ltb, lt-ltb, le-leb}
 use borrow.Author.Tests.{lt-leb}
 use Rattle.feed.specs.declared.faults.Item.{Item}
 use Rattle.feed.specs.declared.faults.Item.TheVariants.{Sound}
@@ -9,9 +9,8 @@ use Rattle.duty.specs.Sheet.{book_sheet, Fits}
 use Rattle.duty.specs.Standings.{rules_of, verdicts_of, sheet_of, Stands}
 use Rattle.duty.specs.Verdicts.{verdicts}
 use Rattle.duty.specs.declared.standings.Standing.{Standing}
-use Rattle.auditor.specs.Account.{latest, fits, item_refusal, refusal}
+use Rattle.auditor.specs.Account.{latest, item_refusal, refusal}
 use Rattle.auditor.specs.Held.{Held}
-use Rattle.auditor.specs.declared.answers.Refusal.{Refusal}
 use Rattle.auditor.specs.declared.answers.Refusal.TheVariants.{Backdated, SheetFull, LogFull}
 
 latest-more : (log : List Line) (l : Line) → latest (log ++ (l ∷ [])) ≡ l.time

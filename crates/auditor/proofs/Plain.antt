@@ -1,5 +1,5 @@
 -- The account of a take in words.
-use Rattle.std.proofs.Common.{◌≡◌, ℕ, zero, suc, ◌<◌, ◌≤◌, Bool, true, false, cond, ◌&&◌, eqb, leb, List, [], ◌∷◌, ◌++◌, map, length, take, drop, Some, None, Option, sym, refl, ap, ◌∙◌, subst, append_assoc, append-nil, arith, length-take, take_all, eqb-true}
+use Rattle.std.proofs.Common.{◌≡◌, ℕ, zero, suc, ◌<◌, ◌≤◌, Bool, true, false, cond, eqb, leb, List, [], ◌∷◌, ◌++◌, map, length, take, drop, Some, None, Option, sym, refl, ap, ◌∙◌, subst, append_assoc, append-nil, arith, length-take, take_all, eqb-true}
 use borrow.Author.Tests.{eqb-false}
 use lib.Seq.{take-append-le}
 use Rattle.std.specs.Option.{option_map}
@@ -12,7 +12,7 @@ use Rattle.auditor.specs.declared.answers.Refusal.{Refusal}
 use Rattle.auditor.specs.declared.answers.Refusal.TheVariants as IsRefused-as
 use Rattle.auditor.specs.declared.answers.Refusal.TheVariants.{LogFull, Count}
 use Rattle.auditor.specs.declared.answers.Stop.{Stop}
-use Rattle.auditor.specs.declared.answers.Stop.TheVariants.{Done, Dry, Refused}
+use Rattle.auditor.specs.declared.answers.Stop.TheVariants.{Dry, Refused}
 use Rattle.auditor.proofs.Accounts.{none_more, one_more, left_is, drawn-done, drawn-stopped, granted}
 
 not_refused : (o : Option Refusal) → option_map Refused o ≡ None → o ≡ None

@@ -1,9 +1,8 @@
 -- What a book's tokens say of its size: its rules, its nodes, its nesting and its numbers. Assumes nothing.
-use Rattle.std.proofs.Common.{◌≡◌, ℕ, suc, ◌+◌, ◌<◌, ◌≤◌, max, Bool, true, false, cond, ◌||◌, ltb, leb, List, [], ◌∷◌, ◌++◌, length, Some, None, codes, sym, refl, ap, ◌∙◌, subst, arith, ltb-false, leb-true}
+use Rattle.std.proofs.Common.{◌≡◌, ℕ, ◌+◌, ◌≤◌, max, Bool, true, false, cond, ◌||◌, ltb, leb, List, [], ◌∷◌, ◌++◌, length, Some, None, codes, refl, subst, arith, ltb-false, leb-true}
 use mathlib.Core.Logic.{∥∥₁_elim}
 use native.Mathlib.Bridge.{le_prop}
 use Rattle.std.proofs.lemmas.Bool.{or_parts, cond_both}
-use Rattle.book.specs.declared.refusals.Reason.{Reason}
 use Rattle.book.specs.declared.refusals.Reason.TheVariants.{PastLimit, BadNumber, NoToken}
 use Rattle.feed.specs.declared.fields.Field.{Field}
 use Rattle.feed.specs.declared.fields.Field.TheVariants.{Time, Kind, Machine, Crew, Run, Reading}
@@ -25,10 +24,10 @@ use Rattle.tokens.specs.declared.token.Symbol.TheVariants as symbols
 use Rattle.tokens.specs.Text.{Stretch, word, number, symbol, stray, end, Placed, stretches, same}
 use Rattle.book.specs.Rules.{Pattern, never, lines, Rule, duty, trigger, bracket}
 use Rattle.book.specs.Sizes.{nodes, all_nodes, depth, deepest, part_number, sum_number, conditions_number, pattern_number, rule_number, largest, WithinLimits}
-use Rattle.book.specs.Grammar.{Role, starts, Item, Spot, size, rule_items, book_items, started, deeper, later, top, pattern_items, part_items, sum_items, condition_items, conditions_items, if_items, binder_items, items, mark, item}
+use Rattle.book.specs.Grammar.{starts, Item, Spot, size, rule_items, book_items, deeper, later, top, pattern_items, part_items, sum_items, condition_items, conditions_items, if_items, binder_items, items}
 use Rattle.book.specs.Sets.{with_binders}
 use Rattle.book.specs.Text.{Got, good, bad, letter_of, field_of, word_of, value_from, leading_zero, number_of, symbol_terminal, meaning, meanings}
-use Rattle.book.specs.Faults.{role_fault, fault, AllSound, gots, meant, Accepted}
+use Rattle.book.specs.Faults.{role_fault, AllSound, gots, meant, Accepted}
 
 sound-left : (is js : List Item) → AllSound (is ++ js) → AllSound is
 sound-left [] js h = tt

@@ -4,7 +4,7 @@ use borrow.Author.Tests.{lt-leb}
 use Rattle.book.specs.declared.terminals.Terminal.TheVariants.{Numeral}
 use Rattle.tokens.specs.Text.{same}
 use Rattle.book.specs.declared.refusals.Reason.TheVariants.{BadNumber}
-use Rattle.book.specs.Text.{Got, good, bad, value_from, number_of, leading_zero}
+use Rattle.book.specs.Text.{good, bad, value_from, number_of, leading_zero}
 
 cut : (bs : List ℕ) (n : ℕ) → n < length bs → drop n bs ≡ get_or bs n 0 ∷ drop (n + 1) bs
 cut bs n h = drop-cons bs n 0 h ∙ ap (λ k. get_or bs n 0 ∷ drop k bs) (sym (add-one n))

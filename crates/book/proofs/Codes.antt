@@ -1,10 +1,10 @@
 -- What is written as one list of binders, pattern or rule is written as no other, and begins no other.
-use Rattle.std.proofs.Common.{◌≡◌, ℕ, Bool, true, false, List, [], ◌∷◌, ◌++◌, sym, refl, ap, ◌∙◌, subst, append_assoc, append-nil, arith}
+use Rattle.std.proofs.Common.{◌≡◌, ℕ, Bool, true, false, List, [], ◌∷◌, ◌++◌, sym, refl, ap, ◌∙◌, append-nil, arith}
 use Rattle.feed.specs.declared.fields.Field.{Field}
 use Rattle.book.specs.declared.terms.Binder.{Binder}
 use Rattle.book.specs.declared.sets.Letters.{Letters}
 use Rattle.book.specs.declared.terminals.Terminal.{Terminal}
-use Rattle.book.specs.declared.terminals.Terminal.TheVariants.{If, Named, Comma, CloseSquare}
+use Rattle.book.specs.declared.terminals.Terminal.TheVariants.{Named, Comma}
 use Rattle.book.specs.Rules.{Pattern, Rule}
 use Rattle.book.specs.Grammar.{Item, mark, binder_items, pattern_items, Spot, rule_items, tokens_of}
 use Rattle.book.specs.Patterns.{closer, binders_closed}

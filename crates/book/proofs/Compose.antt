@@ -1,5 +1,5 @@
 -- How what the readers of the parts did makes up what the reader of the whole did.
-use Rattle.std.proofs.Common.{◌≡◌, ℕ, ◌<◌, false, List, [], ◌∷◌, ◌++◌, length, Some, None, Ok, Err, sym, refl, ap, ◌∙◌, subst, append_assoc, append-nil, arith, length-append}
+use Rattle.std.proofs.Common.{◌≡◌, ℕ, ◌<◌, false, List, [], ◌∷◌, ◌++◌, length, Some, None, Err, sym, refl, ap, ◌∙◌, subst, append_assoc, arith, length-append}
 use Rattle.book.specs.declared.refusals.Fault.{Fault}
 use Rattle.book.specs.declared.refusals.Reason.{Reason}
 use Rattle.book.specs.declared.refusals.Reason.TheVariants.{NotAllowed}
@@ -11,7 +11,7 @@ use Rattle.book.specs.Grammar.{Item, tokens_of}
 use Rattle.book.specs.Text.{Got, good, bad, Lexeme, lexeme}
 use Rattle.book.specs.Faults.{fault, AllSound, gots, meant}
 use Rattle.book.specs.Reading.{Fits, any, Reads, FaultIn, unread, strange, past, Fails}
-use Rattle.book.specs.Readers.{is_end, seen_as, Next, Passed, ToldBy}
+use Rattle.book.specs.Readers.{is_end, seen_as, Passed, ToldBy}
 
 pub gots-++ : (a b : List Lexeme) → gots (a ++ b) ≡ gots a ++ gots b
 gots-++ [] b = refl

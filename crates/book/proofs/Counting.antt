@@ -1,5 +1,5 @@
 -- A rule's nodes are numbered without a gap.
-use Rattle.std.proofs.Common.{◌≡◌, ℕ, zero, suc, ◌+◌, List, [], ◌∷◌, ◌++◌, sym, refl, ap, ◌∙◌, add-zero, add_assoc, zero-add, arith}
+use Rattle.std.proofs.Common.{◌≡◌, ℕ, zero, suc, ◌+◌, List, [], ◌∷◌, ◌++◌, sym, refl, ap, ◌∙◌, arith}
 use Rattle.book.specs.Rules.{Rule, duty, trigger, bracket}
 use Rattle.book.specs.Grammar.{size}
 use Rattle.book.specs.Numbers.{Node, nodes_from, numbers, counting, InOrder}

@@ -1,5 +1,5 @@
 -- Two trees that are written alike up to a token have the same items up to there.
-use Rattle.std.proofs.Common.{◌≡◌, ℕ, ◌+◌, List, [], ◌∷◌, ◌++◌, sym, refl, ap, ◌∙◌, subst, append_assoc, arith}
+use Rattle.std.proofs.Common.{◌≡◌, ℕ, ◌+◌, List, [], ◌∷◌, ◌++◌, sym, refl, ap, subst, append_assoc, arith}
 use Rattle.feed.specs.declared.fields.Field.{Field}
 use Rattle.book.specs.declared.terms.Binder.{Binder}
 use Rattle.book.specs.declared.terms.Operand.{Operand}
@@ -12,10 +12,10 @@ use Rattle.book.specs.declared.terms.Condition.{Condition}
 use Rattle.book.specs.declared.sets.Letters.{Letters}
 use Rattle.book.specs.declared.sets.Fields.{Fields}
 use Rattle.book.specs.declared.terminals.Terminal.{Terminal}
-use Rattle.book.specs.declared.terminals.Terminal.TheVariants.{Duty, Before, Trigger, Until, Then, Joint, Never, If, Named, Lettered, Numeral, Compare, Plus, Times, Comma, Semicolon, Open, Close, OpenSquare, CloseSquare, End}
+use Rattle.book.specs.declared.terminals.Terminal.TheVariants.{Before, Until, Then, Joint, If, Named, Compare, Plus, Times, Comma, Close, CloseSquare, End}
 use Rattle.book.specs.Rules.{Pattern, never, lines, Rule, duty, trigger, bracket}
 use Rattle.book.specs.Sets.{no_letters, no_fields, with_field, with_operand, with_binders, with_pattern}
-use Rattle.book.specs.Grammar.{Item, item, mark, operand_item, more_binders, binder_items, part_items, sum_items, condition_items, conditions_items, if_items, pattern_items, size, Spot, started, deeper, later, rule_items, top, book_items}
+use Rattle.book.specs.Grammar.{Item, mark, operand_item, more_binders, binder_items, part_items, sum_items, condition_items, conditions_items, if_items, pattern_items, size, Spot, deeper, later, rule_items, top, book_items}
 
 -- The two lists agree up to the first token that differs; and Q holds where they end together.
 pub data Det (Q : Type 0) : List Item → List Item → Type 0 where

@@ -1,7 +1,7 @@
 -- No text is neither a book nor refused: while its tokens begin a book and are sound, either the next is at fault or a longer beginning is sound.
-use Rattle.std.proofs.Common.{◌≡◌, ℕ, zero, suc, ◌+◌, ◌-◌, ◌<◌, ◌≤◌, Bool, true, false, cond, ◌⊎◌, List, [], ◌∷◌, ◌++◌, length, take, Some, None, codes, Option, sym, refl, ap, ◌∙◌, subst, inl, inr, append_assoc, append-nil, arith}
+use Rattle.std.proofs.Common.{◌≡◌, ℕ, zero, suc, ◌+◌, ◌-◌, ◌≤◌, Bool, true, false, cond, List, [], ◌∷◌, ◌++◌, length, take, Some, None, codes, Option, sym, refl, ap, ◌∙◌, subst, inl, inr, append_assoc, arith}
 use Rattle.std.proofs.lemmas.Bool.{cases_lt}
-use Rattle.tokens.specs.Text.{Stretch, word, number, symbol, stray, end, Placed, placed, is_blank, is_letter, is_digit, extent, same, symbol_of, stretch_on, stretches_from}
+use Rattle.tokens.specs.Text.{Stretch, word, number, stray, placed, is_blank, is_letter, is_digit, extent, same, symbol_of, stretch_on, stretches_from}
 use Rattle.book.specs.declared.refusals.Reason.{Reason}
 use Rattle.book.specs.declared.refusals.Reason.TheVariants.{TooLong, NotAllowed}
 use Rattle.book.specs.declared.terms.Binder.{Binder}
@@ -19,12 +19,12 @@ use Rattle.book.specs.declared.terminals.Terminal.TheVariants.{End}
 use Rattle.book.specs.Rules.{Pattern, never, lines, Rule, duty, trigger, bracket}
 use Rattle.book.specs.Sets.{no_letters, no_fields, with_field, with_operand, with_binders, with_pattern}
 use Rattle.book.specs.Grammar.{Item, mark, operand_item, more_binders, binder_items, part_items, sum_items, condition_items, conditions_items, if_items, pattern_items, size, Spot, deeper, later, rule_items, top, book_items, items, tokens_of}
-use Rattle.book.specs.Text.{Got, good, bad, Lexeme, lexeme, meaning, meanings, lexemes}
-use Rattle.book.specs.Faults.{fault, AllSound, gots, meant, Accepted, FaultAt, unread, strange, past, FirstFault, Refused, long, first}
+use Rattle.book.specs.Text.{Got, good, bad, Lexeme, meaning, meanings, lexemes}
+use Rattle.book.specs.Faults.{fault, AllSound, gots, meant, Accepted, FaultAt, unread, strange, past, Refused, long, first}
 use Rattle.book.specs.Exact.{Whole}
 use Rattle.book.specs.Readers.{is_end}
 use Rattle.book.proofs.Compose.{gots-++, meant-++, sound-++}
-use Rattle.book.proofs.Det.{Det, done, short, short', both, next, det_book}
+use Rattle.book.proofs.Det.{Det, next, det_book}
 use Rattle.book.proofs.Texts.{Goes, yes, no, word-goes, number-goes, out}
 
 -- The end of a text is its last lexeme.

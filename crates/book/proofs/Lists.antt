@@ -20,11 +20,11 @@ use Rattle.book.specs.declared.sets.Fields.{Fields}
 use Rattle.book.specs.declared.terminals.Terminal.{Terminal}
 use Rattle.book.specs.declared.terminals.Terminal.TheVariants.{If, Named, Lettered, Numeral, Comma, CloseSquare}
 use Rattle.book.specs.Sets.{has, no_letters, no_fields, with_field, with_operand, with_binders}
-use Rattle.book.specs.Grammar.{Item, item, mark, names, operand_item, more_binders, binder_items, part_items, sum_items, condition_items, conditions_items, tokens_of}
+use Rattle.book.specs.Grammar.{Item, item, mark, names, operand_item, part_items, sum_items, condition_items, conditions_items, tokens_of}
 use Rattle.book.specs.Text.{Lexeme}
 use Rattle.book.specs.Faults.{AllSound, fault}
 use Rattle.book.specs.Parts.{ConditionStops}
-use Rattle.book.specs.Patterns.{field_items, operand_items, closer, more_closed, binders_closed, ToldBinders, conditions_closed, ToldConditions}
+use Rattle.book.specs.Patterns.{operand_items, more_closed, binders_closed, ToldBinders, conditions_closed, ToldConditions}
 use Rattle.book.specs.Reading.{Fits, any, Reads, Fails}
 use Rattle.book.proofs.Compose.{closed, stops, flat, then, alike, within}
 use Rattle.book.proofs.Sums.{sum_ends, condition_code}

@@ -1,5 +1,5 @@
 -- How rules are made up of their parts.
-use Rattle.std.proofs.Common.{◌≡◌, ℕ, ◌+◌, ◌≤◌, false, List, [], ◌∷◌, ◌++◌, Err, sym, refl, ap, ◌∙◌, subst, append_assoc, append-nil, arith}
+use Rattle.std.proofs.Common.{◌≡◌, ℕ, false, List, [], ◌∷◌, ◌++◌, Err, sym, refl, ap, ◌∙◌, subst, append_assoc, append-nil, arith}
 use Rattle.book.specs.declared.openings.Expected.{Expected}
 use Rattle.book.specs.declared.openings.Expected.TheVariants as expected
 use Rattle.book.specs.declared.openings.Opening.{Opening}
@@ -9,13 +9,12 @@ use Rattle.book.specs.declared.terms.BracketKind.{BracketKind}
 use Rattle.book.specs.declared.terms.DutyKind.{DutyKind}
 use Rattle.book.specs.declared.terms.DutyKind.TheVariants.{Must}
 use Rattle.book.specs.declared.terms.TriggerKind.{TriggerKind}
-use Rattle.book.specs.declared.terms.TriggerKind.TheVariants.{Each}
 use Rattle.book.specs.declared.terms.BracketKind.TheVariants as kinds
 use Rattle.book.specs.declared.terminals.Terminal.{Terminal}
 use Rattle.book.specs.declared.terminals.Terminal.TheVariants.{Duty, Before, Trigger, Until, Then, Joint, Open, Close}
 use Rattle.book.specs.Rules.{Pattern, never, Rule, duty, trigger, bracket}
 use Rattle.book.specs.Sets.{with_pattern}
-use Rattle.book.specs.Grammar.{Item, item, mark, pattern_items, Spot, spot, started, deeper, later, size, rule_items, tokens_of}
+use Rattle.book.specs.Grammar.{Item, mark, pattern_items, Spot, deeper, later, size, rule_items, tokens_of}
 use Rattle.book.specs.Text.{Lexeme}
 use Rattle.book.specs.Nodes.{expected_terminal, opening_terminal, opening_items}
 use Rattle.book.specs.declared.refusals.Refusal.{Refusal}
@@ -23,7 +22,7 @@ use Rattle.book.specs.declared.rules.Rule as held
 use Rattle.book.specs.Trees.{pure_rule}
 use Rattle.book.specs.Readers.{is_end, ToldBy}
 use Rattle.book.specs.Reading.{any, Reads, Fails}
-use Rattle.book.proofs.Compose.{closed, flat, tokens_++, within}
+use Rattle.book.proofs.Compose.{closed, flat, within}
 use Rattle.book.proofs.Codes.{pattern_code, rule_code}
 
 pub expected_goes : (e : Expected) → is_end (expected_terminal e) ≡ false

@@ -1,11 +1,11 @@
 -- A text is at most one book, or has one first fault; it is one of the two, and never both.
-use Rattle.std.proofs.Common.{◌≡◌, ℕ, ◌+◌, ◌<◌, ◌≤◌, ◌⊎◌, List, [], ◌∷◌, ◌++◌, length, Some, None, Option, sym, refl, ap, ◌∙◌, subst, inl, inr, append_assoc, append-nil, arith}
+use Rattle.std.proofs.Common.{◌≡◌, ℕ, ◌⊎◌, List, [], ◌∷◌, ◌++◌, None, sym, refl, ap, ◌∙◌, subst, inl, inr, append-nil, arith}
 use Rattle.book.specs.declared.refusals.Reason.{Reason}
 use Rattle.book.specs.declared.terminals.Terminal.{Terminal}
 use Rattle.book.specs.Rules.{Rule}
 use Rattle.book.specs.Grammar.{Item, items, tokens_of}
-use Rattle.book.specs.Text.{Got, good, bad, Lexeme, lexemes}
-use Rattle.book.specs.Faults.{fault, AllSound, gots, meant, Accepted, FaultAt, unread, strange, past, FirstFault, Refused, long, first}
+use Rattle.book.specs.Text.{Got, good, Lexeme}
+use Rattle.book.specs.Faults.{fault, AllSound, gots, meant, FaultAt, unread, strange, past, FirstFault, long, first}
 use Rattle.book.specs.Exact.{OneBook, Apart, OneFault}
 use Rattle.book.proofs.Compose.{gots-++}
 use Rattle.book.proofs.Det.{Det, done, short, short', both, next, det_book}

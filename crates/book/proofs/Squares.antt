@@ -1,5 +1,5 @@
 -- How a pattern is made up of its binders and its conditions.
-use Rattle.std.proofs.Common.{◌≡◌, ℕ, Bool, true, false, List, [], ◌∷◌, ◌++◌, Ok, Err, sym, refl, ap, ◌∙◌, subst, append_assoc, append-nil, arith}
+use Rattle.std.proofs.Common.{◌≡◌, ℕ, Bool, true, false, List, [], ◌∷◌, ◌++◌, Err, sym, ap, ◌∙◌, subst, append_assoc, append-nil, arith}
 use Rattle.book.specs.declared.refusals.Refusal.{Refusal}
 use Rattle.book.specs.declared.refusals.Refusal.TheVariants.{Faulty, NoMemory}
 use Rattle.book.specs.declared.rules.Pattern as held
@@ -13,7 +13,7 @@ use Rattle.book.specs.Rules.{Pattern, never, lines}
 use Rattle.book.specs.Sets.{with_binders}
 use Rattle.book.specs.Grammar.{Item, mark, binder_items, conditions_items, if_items, pattern_items, tokens_of}
 use Rattle.book.specs.Text.{Lexeme}
-use Rattle.book.specs.Patterns.{closer, binders_closed, ToldBinders, conditions_closed, ToldConditions}
+use Rattle.book.specs.Patterns.{binders_closed, ToldBinders, conditions_closed, ToldConditions}
 use Rattle.book.specs.Reading.{any, Reads, Fails}
 use Rattle.book.specs.Readers.{ToldBy}
 use Rattle.book.specs.Trees.{pure_pattern}

@@ -1,21 +1,19 @@
 -- Parts and sums: what is written as one, up to a token that does not go on with it, is written as no other.
-use Rattle.std.proofs.Common.{◌≡◌, ℕ, List, [], ◌∷◌, ◌++◌, sym, refl, ap, ◌∙◌, subst, append_assoc, append-nil, arith}
+use Rattle.std.proofs.Common.{◌≡◌, ℕ, List, ◌∷◌, ◌++◌, sym, refl, ◌∙◌, arith}
 use Rattle.book.specs.declared.terms.Letter.{Letter}
-use Rattle.book.specs.declared.terms.Letter.TheVariants as letters
 use Rattle.book.specs.declared.terms.Part.{Part}
 use Rattle.book.specs.declared.terms.Part.TheVariants.{Number, Bound, Product}
 use Rattle.book.specs.declared.terms.Sign.{Sign}
-use Rattle.book.specs.declared.terms.Sign.TheVariants.{AtMost}
 use Rattle.book.specs.declared.terms.Sum.{Sum}
 use Rattle.book.specs.declared.terms.Sum.TheVariants.{One, Two, Three}
 use Rattle.book.specs.declared.terms.Condition.{Condition}
 use Rattle.book.specs.declared.sets.Letters.{Letters}
 use Rattle.book.specs.declared.terminals.Terminal.{Terminal}
-use Rattle.book.specs.declared.terminals.Terminal.TheVariants.{Lettered, Numeral, Compare, Plus, Times, Comma, CloseSquare}
-use Rattle.book.specs.Grammar.{Item, item, mark, counts, uses, part_items, sum_items, condition_items, tokens_of}
-use Rattle.book.specs.Parts.{letter_items, PartStops, SumStops, ConditionStops}
+use Rattle.book.specs.declared.terminals.Terminal.TheVariants.{Lettered, Numeral, Compare, Plus, Times}
+use Rattle.book.specs.Grammar.{mark, part_items, sum_items, condition_items, tokens_of}
+use Rattle.book.specs.Parts.{PartStops, SumStops, ConditionStops}
 use Rattle.book.specs.Reading.{Fits, any}
-use Rattle.book.proofs.Compose.{closed, stops, flat, tokens_++}
+use Rattle.book.proofs.Compose.{closed, stops, flat}
 
 part_code : (k : ℕ) (s : Letters) (p q : Part) (u w : List Terminal) → Fits PartStops p u → Fits PartStops q w → tokens_of (part_items k s p) ++ u ≡ tokens_of (part_items k s q) ++ w → (p ≡ q) × (u ≡ w)
 part_code k s (Number n) (Number m) u w f g e = (cc, cc)

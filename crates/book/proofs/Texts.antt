@@ -1,5 +1,5 @@
 -- How a book is made up of its rules, and what the reader of a whole text found.
-use Rattle.std.proofs.Common.{◌≡◌, ℕ, ◌+◌, ◌<◌, ◌≤◌, Bool, true, false, cond, ◌&&◌, ◌||◌, ltb, leb, List, [], ◌∷◌, ◌++◌, length, Some, None, Ok, Err, codes, Option, Result, sym, refl, ap, ◌∙◌, subst, append_assoc, append-nil, arith, ltb-false}
+use Rattle.std.proofs.Common.{◌≡◌, ℕ, ◌+◌, ◌≤◌, Bool, true, false, cond, ◌&&◌, ◌||◌, ltb, leb, List, [], ◌∷◌, ◌++◌, length, Some, None, Ok, Err, codes, Result, sym, refl, ap, ◌∙◌, subst, append_assoc, append-nil, arith, ltb-false}
 use Rattle.tokens.specs.declared.token.Symbol.{Symbol}
 use Rattle.tokens.specs.declared.token.Symbol.TheVariants as symbols
 use Rattle.tokens.specs.Text.{Stretch, word, number, symbol, stray, end, Placed, same}
@@ -23,10 +23,10 @@ use Rattle.book.specs.Nodes.{expected_items}
 use Rattle.book.specs.Reading.{Fits, any, Reads, FaultIn, unread, strange, past, Fails}
 use Rattle.book.specs.Readers.{is_end, ToldBy}
 use Rattle.book.specs.Trees.{pure_rule, pure_rules}
-use Rattle.book.specs.Whole.{ToldRules, Told, Answered, IsBook, IsRefusal, pure_book}
-use Rattle.book.proofs.Compose.{closed, flat, then, alike, within}
+use Rattle.book.specs.Whole.{ToldRules, Told, Answered, pure_book}
+use Rattle.book.proofs.Compose.{closed, flat, then, alike}
 use Rattle.book.proofs.Codes.{rule_code}
-use Rattle.book.proofs.Nested.{inside, some}
+use Rattle.book.proofs.Nested.{inside}
 use Rattle.book.proofs.Once.{one_book, apart, one_fault}
 
 -- No stretch but the end means the end.

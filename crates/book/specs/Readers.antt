@@ -1,5 +1,5 @@
 -- What the readers of the code ensure.
-use Rattle.std.specs.Prelude.{◌≡◌, ℕ, Bool, true, false, List, [], ◌∷◌, ◌++◌, Ok, Err, Result}
+use Rattle.std.specs.Prelude.{◌≡◌, Bool, true, false, List, ◌∷◌, Ok, Err, Result}
 use Rattle.tokens.specs.declared.source.Cursor.{Cursor}
 use Rattle.tokens.specs.Tokens.{ahead}
 use Rattle.book.specs.declared.refusals.Fault.{Fault}

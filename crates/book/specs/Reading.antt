@@ -1,5 +1,5 @@
 -- What one reader of the code did: it read a tree, or it found the first fault.
-use Rattle.std.specs.Prelude.{◌≡◌, ℕ, List, [], ◌∷◌, ◌++◌, Some, ◌≢◌}
+use Rattle.std.specs.Prelude.{◌≡◌, ℕ, List, ◌∷◌, ◌++◌, Some, ◌≢◌}
 use Rattle.book.specs.declared.refusals.Reason.{Reason}
 use Rattle.book.specs.declared.refusals.Reason.TheVariants.{NotAllowed}
 use Rattle.book.specs.declared.terminals.Terminal.{Terminal}

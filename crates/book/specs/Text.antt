@@ -1,5 +1,5 @@
 -- What each stretch of a text means: a terminal of the grammar, or the reason why it is none.
-use Rattle.std.specs.Prelude.{ℕ, ◌+◌, ◌-◌, ◌*◌, Bool, true, false, cond, ◌&&◌, List, [], ◌∷◌, length, codes, ◌==◌, nat_le, nat_lt}
+use Rattle.std.specs.Prelude.{ℕ, ◌+◌, ◌-◌, ◌*◌, Bool, false, cond, ◌&&◌, List, [], ◌∷◌, length, codes, ◌==◌, nat_le, nat_lt}
 use Rattle.feed.specs.declared.fields.Field.TheVariants.{Time, Kind, Machine, Crew, Run, Reading}
 use Rattle.tokens.specs.declared.token.Symbol.{Symbol}
 use Rattle.tokens.specs.declared.token.Symbol.TheVariants as symbols

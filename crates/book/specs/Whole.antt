@@ -1,5 +1,5 @@
 -- What the reader of a whole text ensures.
-use Rattle.std.specs.Prelude.{◌≡◌, ℕ, List, [], ◌∷◌, ◌++◌, Some, None, Ok, Err, vec_items, Option, Result}
+use Rattle.std.specs.Prelude.{◌≡◌, ℕ, List, [], ◌++◌, Some, None, Ok, Err, vec_items, Option, Result}
 use Rattle.book.specs.declared.book.Book.{Book}
 use Rattle.book.specs.declared.refusals.Reason.{Reason}
 use Rattle.book.specs.declared.refusals.Refusal.{Refusal}

@@ -1,9 +1,7 @@
 -- The rules of a book one after the other.
-use Rattle.std.proofs.Common.{◌≡◌, ℕ, zero, suc, ◌+◌, ◌-◌, ◌<◌, ◌≤◌, List, [], ◌∷◌, ◌++◌, map, length, get_or, take, drop, sym, refl, ap, ◌∙◌, subst, ap₂, inl, inr, append_assoc, append-nil, arith, take_all, drop-drop}
-use mathlib.Core.List.{map-append}
-use lib.ListN.{length-map}
+use Rattle.std.proofs.Common.{◌≡◌, ℕ, zero, suc, ◌+◌, ◌-◌, ◌<◌, ◌≤◌, List, [], ◌∷◌, ◌++◌, length, get_or, take, drop, sym, refl, ap, ◌∙◌, subst, inl, inr, append_assoc, append-nil, arith, take_all, drop-drop}
 use lib.Seq.{take-append-le}
-use Rattle.std.proofs.lemmas.List.{take_rest, drop_more, take_more, drop_all}
+use Rattle.std.proofs.lemmas.List.{take_rest, drop_more, take_more}
 use Rattle.feed.specs.declared.lines.Line.{Line}
 use Rattle.book.specs.Rules as pure
 use Rattle.book.specs.Sizes.{nodes, depth, rule_number, all_nodes, deepest, largest}
@@ -12,7 +10,6 @@ use Rattle.book.specs.declared.rules.Rule.{Rule}
 use Rattle.duty.specs.Matching.{unbound}
 use Rattle.duty.specs.Verdicts.{verdict, verdicts}
 use Rattle.duty.specs.Sheet.{rule_sheet, book_sheet}
-use Rattle.duty.specs.Facts.{Group}
 use Rattle.duty.specs.Final.{DecidedAt}
 use Rattle.duty.specs.Groups.{GroupEnds}
 use Rattle.duty.specs.Open.{Left, met, missed, still, start, step, decide, entries}
@@ -20,7 +17,7 @@ use Rattle.duty.specs.Drafts.{Adds}
 use Rattle.duty.specs.Stepping.{outcome, StepsAt}
 use Rattle.duty.specs.Places.{Placed}
 use Rattle.duty.specs.Untouched.{Untouched}
-use Rattle.duty.specs.Judging.{verdict_at, JudgedRule, Judges, JudgedRules}
+use Rattle.duty.specs.Judging.{verdict_at, Judges, JudgedRules}
 use Rattle.duty.specs.declared.drafts.Draft.{Draft}
 use Rattle.duty.specs.declared.entries.Entry.{Entry}
 use Rattle.duty.specs.declared.judging.Judged.{Judged}

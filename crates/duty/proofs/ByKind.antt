@@ -1,5 +1,5 @@
 -- The step of a rule of each kind, from the steps of what stands inside.
-use Rattle.std.proofs.Common.{◌≡◌, ℕ, suc, ◌+◌, ◌-◌, ◌<◌, ◌≤◌, min, Bool, true, false, List, [], ◌∷◌, ◌++◌, length, get_or, take, drop, sym, refl, ap, ◌∙◌, subst, ap₂, append_assoc, append-nil, arith}
+use Rattle.std.proofs.Common.{◌≡◌, ℕ, suc, ◌+◌, ◌-◌, ◌<◌, ◌≤◌, min, Bool, false, List, [], ◌∷◌, ◌++◌, length, get_or, take, drop, sym, refl, ap, ◌∙◌, subst, append-nil, arith}
 use Rattle.std.proofs.lemmas.List.{take_rest}
 use Rattle.feed.specs.declared.lines.Line.{Line}
 use Rattle.book.specs.Rules.{Pattern, Rule, duty, trigger, bracket}
@@ -13,7 +13,7 @@ use Rattle.duty.specs.Facts.{All, Group}
 use Rattle.duty.specs.Groups.{blank, GroupEnds}
 use Rattle.duty.specs.Open.{Open, start, Left, met, missed, still, over, OnceOpen, waiting, running, EachOpen, watch, ElseOpen, first, second, AndOpen, two, left, right, duty_step, once_step, each_step, each_effect, else_step, and_step, Kept, broken, kept, unless_broken, step_duties, step, together, entries, shown}
 use Rattle.duty.specs.Drafts.{Drafted, Adds}
-use Rattle.duty.specs.Stepping.{outcome, duties_outcome, sides, Came, CameAll, StepsAt, BothStepAt, DutiesStepAt, each_entries, marks, Closed, Closes}
+use Rattle.duty.specs.Stepping.{outcome, duties_outcome, sides, Came, CameAll, StepsAt, BothStepAt, DutiesStepAt, each_entries, marks, Closes}
 use Rattle.duty.specs.declared.drafts.Draft.{Draft}
 use Rattle.duty.specs.declared.entries.Entry.{Entry}
 use Rattle.duty.specs.declared.matching.Effect.{Effect}
@@ -23,9 +23,9 @@ use Rattle.duty.specs.declared.outcomes.Sides.{Sides}
 use Rattle.duty.specs.declared.outcomes.Sides.TheVariants as of
 use Rattle.duty.specs.declared.places.Place.{Place}
 use Rattle.duty.proofs.Listed.{group, within, In}
-use Rattle.duty.proofs.Splits.{Shallow, Splits, group_splits, shallow_group}
-use Rattle.duty.proofs.Written.{adds_none, adds_then, adds_as}
-use Rattle.duty.proofs.Ways.{came_as, came_still, came_over, running-entries, duty-entries}
+use Rattle.duty.proofs.Splits.{Shallow, group_splits, shallow_group}
+use Rattle.duty.proofs.Written.{adds_then}
+use Rattle.duty.proofs.Ways.{came_as, came_still, came_over, running-entries}
 
 -- what an answer says of what is left
 pub met-is : {A : Type 0} (x : Left A) → Satisfied ≡ outcome x → x ≡ met

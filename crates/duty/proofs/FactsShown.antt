@@ -1,5 +1,5 @@
 -- What the open sheet is like on every log.
-use Rattle.std.proofs.Common.{◌≡◌, ℕ, suc, ◌+◌, ◌<◌, ◌≤◌, List, [], ◌∷◌, ◌++◌, length, sym, refl, ap, ◌∙◌, subst, arith, length-append}
+use Rattle.std.proofs.Common.{◌≡◌, ◌+◌, ◌<◌, ◌≤◌, List, [], ◌∷◌, length, sym, refl, ap, ◌∙◌, subst, arith, length-append}
 use Rattle.feed.specs.declared.lines.Line.{Line}
 use Rattle.book.specs.Rules.{Rule}
 use Rattle.book.specs.Sizes.{all_nodes, depth, nodes}

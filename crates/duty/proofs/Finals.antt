@@ -1,13 +1,9 @@
 -- A verdict that is given stays: shown of every machine, and so of every rule.
-use Rattle.std.proofs.Common.{◌≡◌, ℕ, zero, suc, ◌+◌, ◌<◌, ◌≤◌, ◌⊎◌, List, [], ◌∷◌, length, take, sym, refl, ap, ◌∙◌, subst, inl, inr, arith}
+use Rattle.std.proofs.Common.{◌≡◌, ℕ, zero, suc, ◌+◌, ◌<◌, ◌≤◌, ◌⊎◌, List, [], ◌∷◌, length, take, sym, refl, ◌∙◌, inl, inr, arith}
 use Rattle.feed.specs.declared.lines.Line.{Line}
-use Rattle.book.specs.Rules.{Rule}
-use Rattle.duty.specs.Matching.{Bindings}
-use Rattle.duty.specs.declared.verdicts.Verdict.{Verdict}
 use Rattle.duty.specs.declared.verdicts.Verdict.TheVariants.{Pending, Satisfied, Breached}
-use Rattle.duty.specs.Verdicts.{V}
-use Rattle.duty.specs.Open.{Open, start, Left, met, missed, still, step, decide, run}
-use Rattle.duty.specs.Final.{DecidedAt, Final, Finality}
+use Rattle.duty.specs.Open.{start, Left, met, missed, still, step, decide, run}
+use Rattle.duty.specs.Final.{DecidedAt, Finality}
 use Rattle.duty.proofs.Runs.{V_run}
 
 Pending_not : {X : Type 0} (j : ℕ) → DecidedAt Pending j → X

@@ -1,5 +1,5 @@
 -- The laws of the join, and verdicts that are decided at line i or later.
-use Rattle.std.proofs.Common.{◌≡◌, ℕ, suc, ◌≤◌, min, max, sym, refl, ap, ◌∙◌, arith}
+use Rattle.std.proofs.Common.{◌≡◌, ℕ, suc, ◌≤◌, refl, ap, arith}
 use Rattle.duty.specs.Verdicts.{join}
 use Rattle.duty.specs.Joins.{JoinLaws}
 use Rattle.duty.specs.declared.verdicts.Verdict.{Verdict}

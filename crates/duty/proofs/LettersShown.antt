@@ -1,5 +1,5 @@
 -- The letters that entries carry.
-use Rattle.std.proofs.Common.{◌≡◌, ℕ, zero, suc, ◌+◌, ◌-◌, ◌<◌, ◌≤◌, false, ◌⊎◌, List, [], ◌∷◌, ◌++◌, drop, Some, None, Option, sym, refl, ap, ◌∙◌, subst, inl, inr, arith}
+use Rattle.std.proofs.Common.{◌≡◌, ℕ, zero, suc, ◌+◌, ◌-◌, ◌<◌, ◌≤◌, false, List, [], ◌∷◌, drop, Some, None, Option, refl, inl, inr, arith}
 use Rattle.feed.specs.declared.lines.Line.{Line}
 use Rattle.book.specs.Rules.{Pattern, Rule, duty, trigger, bracket}
 use Rattle.book.specs.declared.terms.TriggerKind.{TriggerKind}

@@ -1,5 +1,5 @@
 -- The entries of what is open: a head and deeper ones below it, within the rule's nodes and its depth.
-use Rattle.std.proofs.Common.{◌≡◌, ℕ, suc, ◌+◌, ◌<◌, ◌≤◌, max, List, [], ◌∷◌, ◌++◌, length, sym, refl, ap, ◌∙◌, subst, le_refl, arith, length-append}
+use Rattle.std.proofs.Common.{ℕ, suc, ◌+◌, ◌<◌, ◌≤◌, max, List, [], ◌∷◌, ◌++◌, length, refl, le_refl, arith, length-append}
 use Rattle.book.specs.Rules.{Rule, duty, trigger, bracket}
 use Rattle.book.specs.declared.terms.TriggerKind.TheVariants.{Each, Once}
 use Rattle.book.specs.declared.terms.BracketKind.TheVariants.{Else, And}

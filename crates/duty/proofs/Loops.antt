@@ -1,20 +1,20 @@
 -- The duties of an `each` step one after the other.
-use Rattle.std.proofs.Common.{◌≡◌, ℕ, suc, ◌+◌, ◌-◌, ◌<◌, ◌≤◌, List, [], ◌∷◌, ◌++◌, length, take, drop, sym, refl, ap, ◌∙◌, subst, ap₂, append_assoc, append-nil, arith, length-append, length-drop, drop-drop}
+use Rattle.std.proofs.Common.{◌≡◌, ℕ, ◌+◌, ◌-◌, ◌<◌, ◌≤◌, List, [], ◌∷◌, ◌++◌, length, take, drop, sym, refl, ap, ◌∙◌, subst, append_assoc, append-nil, arith, length-append, length-drop, drop-drop}
 use Rattle.std.proofs.lemmas.List.{drop_all, take_rest}
 use Rattle.feed.specs.declared.lines.Line.{Line}
 use Rattle.book.specs.Rules.{Rule}
 use Rattle.duty.specs.Facts.{Group}
 use Rattle.duty.specs.Groups.{GroupEnds}
-use Rattle.duty.specs.Open.{Open, Left, met, missed, still, Kept, broken, kept, add_kept, add_duty, step_duties, step, together, entries, shown}
+use Rattle.duty.specs.Open.{Open, Kept, broken, kept, add_kept, add_duty, step_duties, step, together, entries, shown}
 use Rattle.duty.specs.Drafts.{Adds}
-use Rattle.duty.specs.Stepping.{outcome, duties_outcome, Came, CameAll, StepsAt}
+use Rattle.duty.specs.Stepping.{duties_outcome, Came, CameAll, StepsAt}
 use Rattle.duty.specs.declared.drafts.Draft.{Draft}
 use Rattle.duty.specs.declared.entries.Entry.{Entry}
 use Rattle.duty.specs.declared.outcomes.Outcome.{Outcome}
 use Rattle.duty.specs.declared.outcomes.Outcome.TheVariants.{Satisfied, Breached, Open as StillOpen}
 use Rattle.duty.specs.declared.places.Place.{Place}
 use Rattle.duty.proofs.Listed.{group}
-use Rattle.duty.proofs.Splits.{Splits, group_splits, shallow_together}
+use Rattle.duty.proofs.Splits.{group_splits, shallow_together}
 use Rattle.duty.proofs.Written.{adds_none, adds_then, adds_as}
 use Rattle.duty.proofs.Ways.{together-more}
 use Rattle.duty.proofs.ByKind.{met-is, missed-is, still-is}

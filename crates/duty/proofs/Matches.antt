@@ -1,7 +1,7 @@
 -- Binders and conditions one after the other.
-use Rattle.std.proofs.Common.{◌≡◌, ℕ, zero, suc, ◌+◌, ◌<◌, ◌≤◌, max, Bool, true, false, cond, not, ◌&&◌, eqb, List, [], ◌∷◌, length, get_or, drop, set, is_some, Some, None, vec_items, Option, Vec, sym, refl, ap, ◌∙◌, subst, arith, get_or-set_other}
+use Rattle.std.proofs.Common.{◌≡◌, ℕ, zero, suc, ◌+◌, ◌<◌, ◌≤◌, Bool, true, false, cond, not, ◌&&◌, eqb, List, [], ◌∷◌, length, get_or, drop, set, is_some, Some, None, vec_items, Option, Vec, sym, refl, ap, ◌∙◌, subst, arith, get_or-set_other}
 use borrow.Author.Tests.{clash}
-use Rattle.std.proofs.lemmas.List.{drop_more, at_drop_more}
+use Rattle.std.proofs.lemmas.List.{at_drop_more}
 use Rattle.feed.specs.Lines.{value}
 use Rattle.feed.specs.declared.lines.Line.{Line}
 use Rattle.book.specs.Sizes.{sum_number, conditions_number}

@@ -1,5 +1,5 @@
 -- The entries of a rule that begins, by its kind.
-use Rattle.std.proofs.Common.{◌≡◌, ℕ, suc, ◌+◌, false, List, [], ◌∷◌, ◌++◌, Box, sym, refl, ap, ◌∙◌, subst, ap₂, arith}
+use Rattle.std.proofs.Common.{◌≡◌, ℕ, suc, ◌+◌, false, [], ◌∷◌, ◌++◌, Box, sym, refl, ap, ◌∙◌, arith}
 use Rattle.book.specs.Rules as pure
 use Rattle.book.specs.Sizes.{nodes}
 use Rattle.book.specs.Trees.{pure_rule}

@@ -1,6 +1,6 @@
 -- What a line passes by.
-use Rattle.std.proofs.Common.{◌≡◌, ℕ, suc, ◌+◌, ◌<◌, ◌≤◌, Bool, true, false, List, [], ◌∷◌, ◌++◌, map, length, get_or, take, None, sym, refl, ap, ◌∙◌, subst, ap₂, append-nil, arith, length-append, take_all}
-use Rattle.std.proofs.lemmas.List.{take_more, map_push}
+use Rattle.std.proofs.Common.{◌≡◌, ℕ, ◌+◌, ◌<◌, ◌≤◌, List, [], ◌∷◌, ◌++◌, length, get_or, take, None, sym, refl, ap, ◌∙◌, subst, ap₂, arith, length-append, take_all}
+use Rattle.std.proofs.lemmas.List.{take_more}
 use Rattle.feed.specs.declared.lines.Line.{Line}
 use Rattle.book.specs.Rules.{Pattern, Rule, duty, trigger, bracket}
 use Rattle.book.specs.declared.terms.TriggerKind.TheVariants.{Each, Once}
@@ -8,7 +8,6 @@ use Rattle.book.specs.declared.terms.BracketKind.TheVariants.{Else, And}
 use Rattle.book.specs.declared.terms.DutyKind.{DutyKind}
 use Rattle.book.specs.declared.terms.DutyKind.TheVariants.{Must, MustNot}
 use Rattle.duty.specs.Matching.{Bindings, matches, acting, ending, effect}
-use Rattle.duty.specs.Sheet.{entry}
 use Rattle.duty.specs.Groups.{blank}
 use Rattle.duty.specs.Facts.{Group}
 use Rattle.duty.specs.Open.{Open, start, Left, still, over, waiting, running, first, second, two, left, right, Kept, kept, add_duty, duty_step, once_step, else_step, and_step, step_duties, step, together, entries}
@@ -16,14 +15,12 @@ use Rattle.duty.specs.Drafts.{Adds}
 use Rattle.duty.specs.Stepping.{duties_outcome, CameAll, PassedBy, some_left, AtLevel}
 use Rattle.duty.specs.declared.drafts.Draft.{Draft}
 use Rattle.duty.specs.declared.entries.Entry.{Entry}
-use Rattle.duty.specs.declared.matching.Effect.{Effect}
-use Rattle.duty.specs.declared.matching.Effect.TheVariants.{Ends, Acts, Passes}
+use Rattle.duty.specs.declared.matching.Effect.TheVariants.{Passes}
 use Rattle.duty.specs.declared.outcomes.Outcome.{Outcome}
-use Rattle.duty.specs.declared.outcomes.Outcome.TheVariants.{Satisfied, Breached, Open as StillOpen}
-use Rattle.duty.specs.declared.places.Place.{Place}
+use Rattle.duty.specs.declared.outcomes.Outcome.TheVariants.{Satisfied, Open as StillOpen}
 use Rattle.duty.proofs.Listed.{group}
 use Rattle.duty.proofs.ByKind.{some-entry}
-use Rattle.duty.proofs.Written.{adds_none, adds_then, adds_as}
+use Rattle.duty.proofs.Written.{adds_then, adds_as}
 
 pub no_effect : (p q : Pattern) (l : Line) → ((f : Bindings) → matches p l f ≡ None) → ((f : Bindings) → matches q l f ≡ None) → (f : Bindings) → effect p q f l ≡ Passes
 unfolding effect

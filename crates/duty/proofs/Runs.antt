@@ -1,5 +1,5 @@
 -- The verdict of a rule is what its machine says.
-use Rattle.std.proofs.Common.{◌≡◌, ℕ, suc, ◌-◌, ◌≤◌, Bool, true, false, List, [], ◌∷◌, ◌++◌, drop, sym, refl, ap, ◌∙◌, ap₂, le_refl, arith}
+use Rattle.std.proofs.Common.{◌≡◌, ℕ, suc, ◌-◌, true, false, List, [], ◌∷◌, ◌++◌, drop, sym, refl, ap, ◌∙◌, ap₂, le_refl, arith}
 use mathlib.Core.Path.{fun_ext}
 use Rattle.feed.specs.declared.lines.Line.{Line}
 use Rattle.book.specs.Rules.{Pattern, Rule, duty, trigger, bracket}
@@ -13,8 +13,8 @@ use Rattle.duty.specs.declared.matching.Effect.TheVariants.{Ends, Acts, Passes}
 use Rattle.duty.specs.declared.verdicts.Verdict.{Verdict}
 use Rattle.duty.specs.declared.verdicts.Verdict.TheVariants.{Pending, Satisfied, Breached}
 use Rattle.duty.specs.Verdicts.{join, V, duty_v, duty_at, trigger_v, trigger_at, else_at}
-use Rattle.duty.specs.Open.{Open, start, Left, met, missed, still, OnceOpen, waiting, running, EachOpen, watch, ElseOpen, first, second, AndOpen, two, left, right, over, then_left, duty_step, once_step, Kept, broken, kept, add_kept, add_duty, step_duties, unless_broken, closing, each_step, each_effect, else_step, and_step, step, decide, run}
-use Rattle.duty.proofs.Joins.{join_comm, join_assoc, join-neutral, Late, late_less, late_join, missed_first, met-first}
+use Rattle.duty.specs.Open.{Open, start, Left, met, missed, still, waiting, running, EachOpen, watch, first, second, two, left, right, over, duty_step, once_step, Kept, broken, kept, add_kept, add_duty, step_duties, unless_broken, each_step, else_step, and_step, step, decide, run}
+use Rattle.duty.proofs.Joins.{join_comm, Late, late_less, late_join, missed_first, met-first}
 
 -- a run from line i on decides at line i or later
 pub late_run : {A : Type 0} (step : A → Line → Left A) (o : A) (i : ℕ) (ls : List Line) → Late i (run step o i ls)

@@ -1,7 +1,7 @@
 -- Sets of kinds, one pattern and one rule after the other.
 use mathlib.Core.HLevel.{Unit-prop, ⊥_prop, Π_prop, ×_prop}
 use mathlib.Core.Logic.{∥∥₁_elim}
-use Rattle.std.proofs.Common.{◌≡◌, ℕ, zero, suc, ◌+◌, ◌<◌, ◌≤◌, Bool, true, false, not, eqb, List, [], ◌∷◌, ◌++◌, length, get_or, take, set, is_some, None, sym, refl, ap, ◌∙◌, subst, arith, take_all, get_or-set_other, ne_eqb}
+use Rattle.std.proofs.Common.{◌≡◌, ℕ, zero, suc, ◌+◌, ◌<◌, ◌≤◌, Bool, true, false, not, List, [], ◌∷◌, ◌++◌, length, get_or, take, set, is_some, None, sym, refl, ap, ◌∙◌, subst, arith, take_all, get_or-set_other, ne_eqb}
 use mathlib.Core.Bool.{Bool-set}
 use borrow.Author.Tests.{clash}
 use Rattle.std.proofs.lemmas.List.{take_more}
@@ -17,7 +17,7 @@ use Rattle.book.specs.declared.terms.Operand.TheVariants.{Number}
 use Rattle.duty.specs.Matching.{Bindings, unbound, bind, matches}
 use Rattle.duty.specs.Clashes.{clashes}
 use Rattle.duty.specs.Untouched.{Unmatched, Untouched, AllUntouched}
-use Rattle.duty.specs.Kinds.{LeftOut, Widened, Covers, CoversAll, CoversEach}
+use Rattle.duty.specs.Kinds.{Widened, Covers, CoversAll, CoversEach}
 use Rattle.duty.specs.declared.kinds.Kinds.{Kinds}
 use Rattle.duty.proofs.Matches.{clash_always}
 

@@ -1,6 +1,5 @@
 -- The open sheet of a rule is the list of the entries of what its machine leaves open.
-use Rattle.std.proofs.Common.{◌≡◌, ℕ, suc, ◌+◌, ◌-◌, Bool, true, false, List, [], ◌∷◌, ◌++◌, drop, sym, refl, ap, ◌∙◌, ap₂, append_assoc, append-nil, arith}
-use mathlib.Core.Path.{fun_ext}
+use Rattle.std.proofs.Common.{◌≡◌, ℕ, suc, ◌+◌, ◌-◌, Bool, true, false, List, [], ◌∷◌, ◌++◌, drop, sym, refl, ap, ◌∙◌, append_assoc, append-nil, arith}
 use Rattle.feed.specs.declared.lines.Line.{Line}
 use Rattle.book.specs.Rules.{Pattern, Rule, duty, trigger, bracket}
 use Rattle.book.specs.declared.terms.DutyKind.{DutyKind}
@@ -16,7 +15,7 @@ use Rattle.duty.specs.declared.verdicts.Verdict.TheVariants.{Pending, Satisfied,
 use Rattle.duty.specs.Verdicts.{V, duty_v, duty_at}
 use Rattle.duty.specs.Sheet.{entry, if_pending, once_sheet, once_at, ended, ended_at, duties, duties_at, else_sheet, and_sheet, sheet}
 use Rattle.duty.specs.declared.entries.Entry.{Entry}
-use Rattle.duty.specs.Open.{Open, start, Left, met, missed, still, OnceOpen, waiting, running, EachOpen, watch, ElseOpen, first, second, AndOpen, two, left, right, Kept, broken, kept, add_kept, add_duty, step_duties, unless_broken, over, then_left, duty_step, once_step, closing, each_step, each_effect, else_step, and_step, step, decide, run, after, together, entries, shown}
+use Rattle.duty.specs.Open.{Open, start, Left, met, missed, still, waiting, running, EachOpen, watch, ElseOpen, first, second, AndOpen, two, left, right, Kept, broken, kept, add_duty, step_duties, unless_broken, over, then_left, duty_step, once_step, each_step, each_effect, else_step, and_step, step, decide, run, after, together, entries, shown}
 use Rattle.duty.proofs.Joins.{Late}
 use Rattle.duty.proofs.Runs.{V_run, late_run}
 

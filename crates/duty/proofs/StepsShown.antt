@@ -1,13 +1,8 @@
 use Rattle.std.proofs.Common.{◌≡◌, ℕ, suc, ◌+◌, List, [], ◌∷◌, ◌++◌, length, sym, refl, ap, ◌∙◌, arith}
 use Rattle.feed.specs.declared.lines.Line.{Line}
-use Rattle.book.specs.Rules.{Rule}
-use Rattle.duty.specs.Matching.{Bindings}
-use Rattle.duty.specs.declared.verdicts.Verdict.{Verdict}
-use Rattle.duty.specs.declared.verdicts.Verdict.TheVariants.{Pending, Satisfied, Breached}
-use Rattle.duty.specs.Verdicts.{V}
-use Rattle.duty.specs.Sheet.{sheet}
-use Rattle.duty.specs.Open.{Open, start, Left, met, missed, still, then_left, step, decide, run, after, entries, shown}
-use Rattle.duty.specs.Steps.{Stepped, StepsRight}
+use Rattle.duty.specs.declared.verdicts.Verdict.TheVariants.{Pending}
+use Rattle.duty.specs.Open.{start, Left, met, missed, still, then_left, step, decide, run, after, entries, shown}
+use Rattle.duty.specs.Steps.{StepsRight}
 use Rattle.duty.proofs.Runs.{V_run}
 use Rattle.duty.proofs.Sheets.{sheet-after}
 

@@ -10,12 +10,11 @@ use Rattle.book.specs.declared.terms.TriggerKind.{TriggerKind}
 use Rattle.book.specs.declared.terms.TriggerKind.TheVariants.{Each, Once}
 use Rattle.book.specs.declared.terms.BracketKind.TheVariants.{Else, And}
 use Rattle.duty.specs.Matching.{Bindings, unbound, matches, effect}
-use Rattle.duty.specs.Verdicts.{Judge, join, V, duty_v, duty_at, trigger_v, trigger_at, else_at, verdict, verdicts}
-use Rattle.duty.specs.Sheet.{Listing, entry, if_pending, once_at, once_sheet, ended_at, ended, duties_at, duties, else_sheet, and_sheet, sheet, rule_sheet, book_sheet}
+use Rattle.duty.specs.Verdicts.{Judge, join, V, duty_v, duty_at, trigger_v, trigger_at, else_at, verdicts}
+use Rattle.duty.specs.Sheet.{Listing, entry, if_pending, once_at, once_sheet, ended_at, ended, duties_at, duties, else_sheet, and_sheet, sheet, book_sheet}
 use Rattle.duty.specs.Untouched.{Unmatched, Untouched, AllUntouched}
 use Rattle.duty.specs.declared.entries.Entry.{Entry}
-use Rattle.duty.specs.declared.matching.Effect.TheVariants.{Ends, Acts, Passes}
-use Rattle.duty.specs.declared.verdicts.Verdict.{Verdict}
+use Rattle.duty.specs.declared.matching.Effect.TheVariants.{Passes}
 use Rattle.duty.specs.declared.verdicts.Verdict.TheVariants.{Pending}
 use Rattle.duty.proofs.Passing.{no_effect}
 

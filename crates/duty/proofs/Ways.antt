@@ -1,24 +1,22 @@
 -- What a step answers and writes, put together from its parts.
-use Rattle.std.proofs.Common.{◌≡◌, ℕ, suc, ◌+◌, ◌<◌, ◌≤◌, min, true, false, List, [], ◌∷◌, ◌++◌, length, sym, refl, ap, ◌∙◌, subst, ap₂, append_assoc, append-nil, arith}
-use Rattle.feed.specs.declared.lines.Line.{Line}
-use Rattle.book.specs.Rules.{Pattern, Rule, duty, trigger, bracket}
+use Rattle.std.proofs.Common.{◌≡◌, ℕ, suc, ◌+◌, min, false, List, [], ◌∷◌, ◌++◌, length, sym, refl, ap, ◌∙◌, subst, append_assoc, append-nil, arith}
+use Rattle.book.specs.Rules.{Pattern, Rule, duty, trigger}
 use Rattle.book.specs.declared.terms.DutyKind.{DutyKind}
 use Rattle.book.specs.declared.terms.DutyKind.TheVariants.{Must, MustNot}
-use Rattle.book.specs.declared.terms.TriggerKind.TheVariants.{Each, Once}
-use Rattle.book.specs.declared.terms.BracketKind.TheVariants.{Else, And}
-use Rattle.duty.specs.Matching.{Bindings, effect}
+use Rattle.book.specs.declared.terms.TriggerKind.TheVariants.{Once}
+use Rattle.duty.specs.Matching.{Bindings}
 use Rattle.duty.specs.Sheet.{entry}
-use Rattle.duty.specs.Open.{Open, start, Left, met, missed, still, over, OnceOpen, waiting, running, EachOpen, watch, duty_step, once_step, each_step, closing, Kept, broken, kept, step, together, entries, shown}
+use Rattle.duty.specs.Open.{Open, start, Left, met, missed, still, over, waiting, running, watch, duty_step, each_step, together, entries, shown}
 use Rattle.duty.specs.Drafts.{Drafted, Adds}
-use Rattle.duty.specs.Stepping.{outcome, duties_outcome, Came, each_entries, marks, Closed}
+use Rattle.duty.specs.Stepping.{outcome, Came, marks, Closed}
 use Rattle.duty.specs.declared.drafts.Draft.{Draft}
 use Rattle.duty.specs.declared.entries.Entry.{Entry}
 use Rattle.duty.specs.declared.matching.Effect.{Effect}
-use Rattle.duty.specs.declared.matching.Effect.TheVariants.{Ends, Acts, Passes}
+use Rattle.duty.specs.declared.matching.Effect.TheVariants.{Acts, Passes}
 use Rattle.duty.specs.declared.outcomes.Outcome.{Outcome}
-use Rattle.duty.specs.declared.outcomes.Outcome.TheVariants.{Satisfied, Breached, Open as StillOpen}
+use Rattle.duty.specs.declared.outcomes.Outcome.TheVariants.{Open as StillOpen}
 use Rattle.duty.specs.declared.places.Place.{Place}
-use Rattle.duty.proofs.Written.{adds_none, adds_as}
+use Rattle.duty.proofs.Written.{adds_as}
 
 pub came_still : (r : Rule) (n lev : ℕ) (x : Left (Open r)) (o : Open r) (d d' : Draft) (es : List Entry) → x ≡ still o → Adds d d' es → es ≡ entries r n lev o → Came r n lev x d d' StillOpen
 came_still r n lev x o d d' es e a w = record { answer = sym (ap outcome e); written = adds_as d d' es _ (w ∙ sym (ap (shown (entries r n lev)) e)) a }

@@ -1,5 +1,5 @@
 -- What a draft holds after a write, and after it is cut back.
-use Rattle.std.proofs.Common.{◌≡◌, ℕ, suc, ◌+◌, ◌<◌, ◌≤◌, min, Bool, true, false, leb, ◌⊎◌, List, [], ◌∷◌, ◌++◌, length, take, sym, refl, ap, ◌∙◌, subst, inl, inr, append_assoc, append-nil, arith, length-append, length-take, take_all, take-take, take_at, leb-false, leb-true}
+use Rattle.std.proofs.Common.{◌≡◌, ℕ, ◌+◌, ◌<◌, ◌≤◌, min, Bool, true, false, leb, ◌⊎◌, List, [], ◌∷◌, ◌++◌, length, take, sym, refl, ap, ◌∙◌, subst, inl, inr, append_assoc, append-nil, arith, length-append, length-take, take_all, take-take, take_at, leb-false, leb-true}
 use lib.Seq.{take-append-le}
 use Rattle.std.proofs.lemmas.List.{nil_from_length}
 use Rattle.duty.specs.Drafts.{Drafted, Adds}

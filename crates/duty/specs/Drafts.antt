@@ -1,5 +1,5 @@
 -- What a draft holds. Assumes nothing.
-use Rattle.std.specs.Prelude.{◌≡◌, ℕ, min, List, ◌++◌, length, take, vec_items}
+use Rattle.std.specs.Prelude.{◌≡◌, min, List, ◌++◌, length, take, vec_items}
 use Rattle.duty.specs.declared.entries.Entry.{Entry}
 use Rattle.duty.specs.declared.drafts.Draft.{Draft}
 

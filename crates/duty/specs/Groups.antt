@@ -1,5 +1,5 @@
 -- Where the group at the front of a list of entries ends. Assumes nothing.
-use Rattle.std.specs.Prelude.{◌≡◌, ℕ, ◌<◌, ◌≤◌, false, List, [], ◌∷◌, length, slice_index_or}
+use Rattle.std.specs.Prelude.{ℕ, ◌<◌, ◌≤◌, false, List, [], length, slice_index_or}
 use Rattle.duty.specs.declared.entries.Entry.{Entry}
 
 abbrev pub blank : Entry

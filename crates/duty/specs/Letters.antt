@@ -1,7 +1,7 @@
 -- The letters that the entries of a rule carry, on every log. Assumes nothing.
-use Rattle.std.specs.Prelude.{◌≡◌, ℕ, suc, ◌+◌, ◌<◌, ◌≤◌, ◌⊎◌, List, [], ◌∷◌, Some}
+use Rattle.std.specs.Prelude.{◌≡◌, ℕ, suc, ◌+◌, ◌⊎◌, List, [], ◌∷◌, Some}
 use Rattle.feed.specs.declared.lines.Line.{Line}
-use Rattle.book.specs.Rules.{Pattern, Rule, duty, trigger, bracket}
+use Rattle.book.specs.Rules.{Rule, duty, trigger, bracket}
 use Rattle.book.specs.Sizes.{nodes}
 use Rattle.duty.specs.Matching.{Bindings, matches}
 use Rattle.duty.specs.Sheet.{sheet}

@@ -1,7 +1,7 @@
 -- What is left open of a rule after some lines, as a tree of the shape of the rule, and its step by one line. Assumes nothing.
 use Rattle.std.specs.Prelude.{ℕ, suc, ◌+◌, Bool, true, false, List, [], ◌∷◌, ◌++◌}
 use Rattle.feed.specs.declared.lines.Line.{Line}
-use Rattle.book.specs.Rules.{Pattern, Rule, duty, trigger, bracket}
+use Rattle.book.specs.Rules.{Rule, duty, trigger, bracket}
 use Rattle.book.specs.declared.terms.DutyKind.{DutyKind}
 use Rattle.book.specs.declared.terms.DutyKind.TheVariants.{Must, MustNot}
 use Rattle.book.specs.declared.terms.TriggerKind.TheVariants.{Each, Once}

@@ -1,5 +1,5 @@
 -- A rule at a place. Assumes nothing.
-use Rattle.std.specs.Prelude.{ℕ, ◌+◌, ◌≤◌}
+use Rattle.std.specs.Prelude.{◌+◌, ◌≤◌}
 use Rattle.book.specs.Rules.{Rule}
 use Rattle.book.specs.Sizes.{nodes, depth, rule_number}
 use Rattle.duty.specs.declared.places.Place.{Place}

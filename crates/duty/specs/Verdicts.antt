@@ -6,7 +6,6 @@ use Rattle.book.specs.declared.terms.DutyKind.{DutyKind}
 use Rattle.book.specs.declared.terms.DutyKind.TheVariants.{Must, MustNot}
 use Rattle.book.specs.declared.terms.TriggerKind.{TriggerKind}
 use Rattle.book.specs.declared.terms.TriggerKind.TheVariants.{Each, Once}
-use Rattle.book.specs.declared.terms.BracketKind.{BracketKind}
 use Rattle.book.specs.declared.terms.BracketKind.TheVariants.{Else, And}
 use Rattle.duty.specs.Matching.{Bindings, unbound, effect}
 use Rattle.duty.specs.declared.matching.Effect.{Effect}

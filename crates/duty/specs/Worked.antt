@@ -1,5 +1,5 @@
 -- Worked logs: a log is given by its kinds, all else 0. Assumes nothing.
-use Rattle.std.specs.Prelude.{◌≡◌, ℕ, true, false, List, [], ◌∷◌, ◌++◌, map, length, replicate, Some, None, Ok, Err, Option, Result}
+use Rattle.std.specs.Prelude.{◌≡◌, ℕ, true, false, List, [], ◌∷◌, ◌++◌, map, length, replicate, Some, None, Ok, Err, Result}
 use Rattle.std.proofs.Common.{lit≤}
 use Rattle.feed.specs.Lines.{line_of}
 use Rattle.feed.specs.declared.fields.Field.{Field}

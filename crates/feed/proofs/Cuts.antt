@@ -1,5 +1,5 @@
 -- Cutting an input into items, one at a time. Assumes nothing.
-use Rattle.std.proofs.Common.{◌≡◌, ℕ, zero, suc, ◌+◌, ◌-◌, ◌/◌, ◌<◌, ◌≤◌, min, Bool, true, false, eqb, List, [], ◌∷◌, length, take, drop, Some, MatchBool, Result, sym, refl, ap, ◌∙◌, subst, ⊎_elim, add-one, arith, length-drop, take-append-drop, length-take-le, take_all, eqb-true}
+use Rattle.std.proofs.Common.{◌≡◌, ℕ, zero, suc, ◌+◌, ◌-◌, ◌<◌, ◌≤◌, min, Bool, true, false, eqb, List, [], ◌∷◌, length, take, drop, Some, MatchBool, Result, sym, refl, ap, ◌∙◌, subst, ⊎_elim, add-one, arith, length-drop, take-append-drop, length-take-le, take_all, eqb-true}
 use native.Mathlib.Nat.{div-eq_of_lt, add-div_right}
 use borrow.Author.Tests.{eqb-false}
 use Rattle.std.proofs.lemmas.List.{drop_all}

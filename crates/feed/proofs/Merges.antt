@@ -1,5 +1,5 @@
 -- The merge of two lists. Assumes nothing.
-use Rattle.std.proofs.Common.{◌≡◌, Bool, true, false, cond, List, [], ◌∷◌, Some, sym, refl, ap, ◌∙◌, subst}
+use Rattle.std.proofs.Common.{◌≡◌, true, false, cond, List, [], ◌∷◌, Some, refl, ap}
 use Rattle.feed.specs.Waiting.{first, later, before, placed, merged, leads, Interleaved, none, left, right, Merge}
 use Rattle.feed.specs.declared.faults.Item.{Item}
 

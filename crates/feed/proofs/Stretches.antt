@@ -1,10 +1,10 @@
 -- Successive feeds over the stretches of one input. Assumes nothing.
-use Rattle.std.proofs.Common.{◌≡◌, ℕ, zero, suc, ◌+◌, ◌-◌, ◌*◌, ◌/◌, ◌<◌, ◌≤◌, min, List, [], ◌∷◌, ◌++◌, length, take, drop, Result, sym, refl, ap, ◌∙◌, subst, ⊎_elim, append-nil, add-zero, mul_comm, mul-pos, mul-zero, mul-suc, arith, length-append, length-drop, take-append-drop, length-take-le, take_all}
+use Rattle.std.proofs.Common.{◌≡◌, ℕ, zero, suc, ◌+◌, ◌*◌, ◌/◌, ◌<◌, ◌≤◌, min, List, [], ◌∷◌, ◌++◌, length, take, drop, Result, sym, refl, ap, ◌∙◌, ⊎_elim, append-nil, add-zero, mul_comm, mul-pos, mul-zero, mul-suc, arith, length-append, length-drop, take-append-drop, length-take-le, take_all}
 use native.Mathlib.Nat.{div-eq_of_eq-mul_left}
 use lib.Seq.{take-append-le}
 use Rattle.std.proofs.lemmas.List.{drop_all, drop-append-le}
 use Rattle.std.proofs.lemmas.Bool.{cases_lt}
-use Rattle.feed.specs.Inputs.{item_of, counted, items_of}
+use Rattle.feed.specs.Inputs.{counted, items_of}
 use Rattle.feed.specs.Recorded.{followed}
 use Rattle.feed.specs.Text.{text_line}
 use Rattle.feed.specs.declared.faults.FaultKind.{FaultKind}

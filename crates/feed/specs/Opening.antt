@@ -1,5 +1,5 @@
 -- Opening a feed over an input. Assumes nothing.
-use Rattle.std.specs.Prelude.{◌≡◌, ℕ, Bool, cond, ◌||◌, List, length, Some, None, Option, nat_lt}
+use Rattle.std.specs.Prelude.{ℕ, Bool, cond, ◌||◌, Some, None, Option, nat_lt}
 use Rattle.feed.specs.declared.inputs.OpenRefusal.{OpenRefusal}
 use Rattle.feed.specs.declared.inputs.OpenRefusal.TheVariants.{Station, FirstItem, InputLength}
 

@@ -1,5 +1,5 @@
 -- An input of any size as a feed. Assumes nothing.
-use Rattle.std.specs.Prelude.{◌≡◌, ℕ, true, false, List, [], ◌∷◌, ◌++◌, Ok, Err, Result}
+use Rattle.std.specs.Prelude.{◌≡◌, ℕ, true, false, List, Ok, Err, Result}
 use Rattle.feed.specs.Inputs.{items_of}
 use Rattle.feed.specs.Opened.{waiting_in}
 use Rattle.feed.specs.Opening.{outside}

@@ -1,5 +1,5 @@
 -- A report by one item more. Assumes nothing.
-use Rattle.std.proofs.Common.{◌≡◌, ℕ, ◌+◌, min, List, [], ◌∷◌, ◌++◌, length, Some, None, vec_items, unwrap_or, sym, refl, ap, ◌∙◌, append_assoc, append-nil, arith, length-append}
+use Rattle.std.proofs.Common.{◌≡◌, ℕ, ◌+◌, min, List, [], ◌∷◌, ◌++◌, length, Some, vec_items, unwrap_or, sym, refl, ap, ◌∙◌, append_assoc, append-nil, arith, length-append}
 use Rattle.feed.specs.declared.faults.Fault.{Fault}
 use Rattle.feed.specs.declared.faults.Item.{Item}
 use Rattle.feed.specs.declared.faults.Item.TheVariants.{Sound, Faulty}

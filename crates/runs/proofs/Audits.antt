@@ -1,10 +1,10 @@
 -- The law from the turns of two auditors that were opened on one book.
-use Rattle.std.proofs.Common.{◌≡◌, ℕ, zero, suc, List, [], ◌∷◌, map, length, take, sym, refl, ap, ◌∙◌, subst}
+use Rattle.std.proofs.Common.{◌≡◌, ℕ, zero, suc, List, [], ◌∷◌, map, length, take, refl, ap, ◌∙◌, subst}
 use Rattle.book.specs.Rules.{Rule}
 use Rattle.auditor.specs.Holds.{Holds}
 use Rattle.auditor.specs.declared.auditors.Auditor.{Auditor}
 use Rattle.auditor.proofs.Plain.{take_law}
-use Rattle.runs.specs.Calls.{Account, Asked, finally}
+use Rattle.runs.specs.Calls.{Account, finally}
 use Rattle.runs.specs.Law.{opening, after, AsAccount, Ends, run_at, at_first, Lawful, Law}
 use Rattle.runs.specs.Making.{BothAgree, TurnsMade}
 use Rattle.runs.specs.Turns.{turns_of, asked, Both, side, after_turns}

@@ -1,5 +1,5 @@
 -- One more moment counted.
-use Rattle.std.proofs.Common.{◌≡◌, ℕ, suc, ◌+◌, min, Bool, true, false, cond, List, [], ◌∷◌, ◌++◌, sym, refl, ap, ◌∙◌, arith}
+use Rattle.std.proofs.Common.{◌≡◌, ℕ, suc, ◌+◌, min, Bool, true, false, cond, List, [], ◌∷◌, ◌++◌, refl, ap, ◌∙◌, arith}
 use Rattle.runs.specs.Counts.{moments_of, most_counted, Counts}
 use Rattle.runs.specs.Turns.{same_side, Moment}
 use Rattle.runs.specs.declared.calls.Side.{Side}

@@ -1,7 +1,7 @@
 -- What the loops and the steps of the cursor keep.
-use Rattle.std.proofs.Common.{◌≡◌, ℕ, zero, suc, ◌+◌, ◌-◌, ◌<◌, ◌≤◌, Bool, true, false, cond, ◌&&◌, ◌||◌, eqb, leb, List, [], ◌∷◌, ◌++◌, length, get_or, take, drop, Some, None, codes, Option, sym, refl, ap, ◌∙◌, subst, add-zero, zero-add, add-one, one-add, arith, length-drop, drop_of_length-le, length-take-le, drop-cons, drop-drop, eqb-true, leb-false, leb-true}
+use Rattle.std.proofs.Common.{◌≡◌, ℕ, zero, suc, ◌+◌, ◌-◌, ◌<◌, ◌≤◌, Bool, true, false, cond, ◌&&◌, eqb, leb, List, [], ◌∷◌, length, get_or, take, drop, codes, Option, sym, refl, ap, ◌∙◌, add-zero, add-one, arith, length-drop, drop_of_length-le, length-take-le, drop-cons, drop-drop, eqb-true, leb-false, leb-true}
 use Rattle.tokens.specs.declared.token.Symbol.{Symbol}
-use Rattle.tokens.specs.Text.{Stretch, word, number, stray, end, Placed, placed, is_blank, is_letter, is_digit, is_angle, run_len, extent, stretch_on, stretches_from, next_is, same, symbol_of, is_end}
+use Rattle.tokens.specs.Text.{Stretch, word, number, end, Placed, placed, is_blank, is_letter, is_digit, is_angle, run_len, extent, stretch_on, stretches_from, next_is, same, symbol_of, is_end}
 use Rattle.tokens.specs.declared.token.Token.{Token}
 use Rattle.tokens.specs.declared.token.Token.TheVariants.{Word, Number, Mark, Stray, End}
 use Rattle.tokens.specs.Tokens.{SymbolAt, symbol_stretch, symbol_span, tokens_at, AtEnd, stretch_of, token_len}

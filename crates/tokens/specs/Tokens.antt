@@ -1,5 +1,5 @@
 -- What a token of the code stands for in the text, and what the cursor's calls ensure.
-use Rattle.std.specs.Prelude.{◌≡◌, ℕ, ◌+◌, Bool, true, false, cond, ◌&&◌, List, [], ◌∷◌, length, drop, Some, None, Option}
+use Rattle.std.specs.Prelude.{◌≡◌, ℕ, Bool, true, false, cond, ◌&&◌, List, [], ◌∷◌, length, drop, Some, None, Option}
 use Rattle.tokens.specs.declared.source.Cursor.{Cursor}
 use Rattle.tokens.specs.declared.token.Found.{Found}
 use Rattle.tokens.specs.declared.token.Symbol.{Symbol}

@@ -1,19 +1,12 @@
-use Rattle.std.proofs.Common.{◌≡◌, List, [], ◌∷◌, ◌++◌, sym, refl, ap, ◌∙◌, append_assoc, append-nil}
+use Rattle.std.proofs.Common.{[], sym, refl}
 use Rattle.std.proofs.lemmas.Result.{err_from_is_err_and}
-use Rattle.book.specs.declared.terms.Letter.{Letter}
-use Rattle.book.specs.declared.terms.Letter.TheVariants.{A}
 use Rattle.book.specs.declared.terms.Part.{Part}
-use Rattle.book.specs.declared.terms.Part.TheVariants.{Number, Bound, Product}
-use Rattle.book.specs.declared.terms.Sum.{Sum}
-use Rattle.book.specs.declared.terms.Sum.TheVariants.{One, Two, Three}
-use Rattle.book.specs.declared.terms.Condition.{Condition}
-use Rattle.book.specs.declared.terminals.Terminal.TheVariants.{Lettered, Numeral, Compare, Plus, Times}
-use Rattle.book.specs.Grammar.{item, mark, counts, uses, part_items, sum_items, condition_items, tokens_of}
-use Rattle.book.specs.Parts.{letter_items, PartStops, SumStops, ConditionStops}
+use Rattle.book.specs.declared.terms.Part.TheVariants.{Number, Bound}
+use Rattle.book.specs.declared.terminals.Terminal.TheVariants.{Lettered, Numeral}
+use Rattle.book.specs.Grammar.{item, counts, uses, part_items}
 use Rattle.book.specs.Reading.{any}
-use Rattle.book.specs.Readers.{coming, seen_as}
-use Rattle.book.proofs.Compose.{start, then, alike, onto, one, at, closed, stops, within, no_token, wrong, faulty, bad-first, wrong_first, faulty_first}
-use Rattle.book.proofs.Sums.{part_first, inv_product, not_number, part_ends, sum_ends, inv_one, inv_two, inv_three, sum_code, compare_ends}
+use Rattle.book.proofs.Compose.{one, bad-first, wrong_first, faulty_first}
+use Rattle.book.proofs.Sums.{part_first}
 use Rattle.book.proofs.parts.read_lead.Goals as goal
 
 pub returns-in_err-seen : goal.returns-in_err-seen

@@ -1,22 +1,16 @@
-use Rattle.std.proofs.Common.{◌≡◌, ◌+◌, ◌<◌, ◌≤◌, Bool, true, false, List, [], ◌∷◌, ◌++◌, length, is_ok, vec_items, sym, refl, ap, ◌∙◌, append_assoc, append-nil, arith, rules}
+use Rattle.std.proofs.Common.{Bool, false, List, [], ◌∷◌, vec_items, sym, refl, ap, ◌∙◌, append-nil}
 use Rattle.book.specs.Sets.{no_fields, no_letters, with_field, with_operand}
 use Rattle.book.proofs.Lists.{move_sets, move_operand, none_named}
-use Rattle.std.proofs.ResultArms.{chosen}
 use Rattle.std.proofs.lemmas.Result.{err_from_is_err_and}
-use Rattle.feed.specs.declared.fields.Field.{Field}
-use Rattle.feed.specs.declared.fields.Field.TheVariants.{Time}
 use Rattle.book.specs.declared.terms.Binder.{Binder}
-use Rattle.book.specs.declared.terms.Condition.{Condition}
 use Rattle.book.specs.declared.terms.Operand.{Operand}
-use Rattle.book.specs.declared.terms.Operand.TheVariants.{Number, Bound}
-use Rattle.book.specs.declared.terminals.Terminal.TheVariants.{If, Named, Lettered, Numeral, Comma, CloseSquare}
-use Rattle.book.specs.Grammar.{item, mark, names, binds, operand_item, condition_items, tokens_of}
-use Rattle.book.specs.Patterns.{field_items, operand_items, more_closed, binders_closed, conditions_closed}
-use Rattle.book.specs.Parts.{ConditionStops}
+use Rattle.book.specs.declared.terminals.Terminal.TheVariants.{If, Named, CloseSquare}
+use Rattle.book.specs.Grammar.{item, mark, names}
+use Rattle.book.specs.Patterns.{operand_items, binders_closed}
 use Rattle.book.specs.Reading.{any}
-use Rattle.book.specs.Readers.{coming, seen_as}
-use Rattle.book.proofs.Compose.{start, then, alike, onto, one, at, closed, stops, within, no_token, wrong, faulty, bad-first, wrong_first, faulty_first, shrinks, with-token}
-use Rattle.book.proofs.Lists.{operand_first, binder, more-first, inv_field, inv_operand, more_binders_lem, binders_first, inv_first_operand, first_binders, inv_condition, inv_after, more_conditions, few_conditions}
+use Rattle.book.specs.Readers.{coming}
+use Rattle.book.proofs.Compose.{then, alike, one, closed, within, bad-first, wrong_first}
+use Rattle.book.proofs.Lists.{binder, binders_first, inv_first_operand, first_binders}
 use Rattle.book.proofs.patterns.read_binders.Goals as goal
 
 pub returns-in_err-seen : goal.returns-in_err-seen

@@ -1,11 +1,10 @@
-use Rattle.std.proofs.Common.{◌≡◌, Bool, true, false, List, [], ◌∷◌, ◌++◌, vec_items, sym, refl, ap, ◌∙◌, subst, append_assoc, append-nil}
+use Rattle.std.proofs.Common.{true, false, List, [], ◌∷◌, ◌++◌, vec_items, sym, refl, ap, ◌∙◌, subst}
 use Rattle.std.proofs.lemmas.Result.{err_from_is_err_and}
 use Rattle.book.specs.declared.terms.Binder.{Binder}
 use Rattle.book.specs.declared.terminals.Terminal.TheVariants.{Never, OpenSquare}
 use Rattle.book.specs.Rules.{Pattern, never}
 use Rattle.book.specs.Sets.{with_binders}
 use Rattle.book.specs.Grammar.{mark, pattern_items}
-use Rattle.book.specs.Text.{Lexeme}
 use Rattle.book.specs.Patterns.{binders_closed}
 use Rattle.book.specs.Reading.{any, Reads}
 use Rattle.book.specs.Readers.{coming}

@@ -1,21 +1,16 @@
-use Rattle.std.proofs.Common.{◌≡◌, ℕ, ◌+◌, ◌<◌, ◌≤◌, List, [], ◌∷◌, ◌++◌, Ok, Err, box_value, sym, refl, ap, ◌∙◌, subst, append_assoc, append-nil, arith, rules}
+use Rattle.std.proofs.Common.{[], ◌∷◌, ◌++◌, refl, ap}
 use Rattle.std.proofs.lemmas.Result.{err_from_is_err_and}
-use Rattle.book.specs.declared.openings.Opening.{Opening}
 use Rattle.book.specs.declared.openings.Expected.TheVariants as expected
 use Rattle.book.specs.declared.rules.Pattern as held-pattern
 use Rattle.book.specs.declared.rules.Rule as held
-use Rattle.book.specs.declared.terms.BracketKind.{BracketKind}
-use Rattle.book.specs.declared.terms.BracketKind.TheVariants as kinds
-use Rattle.book.specs.declared.terminals.Terminal.TheVariants.{Duty, Before, Trigger, Until, Then, Joint, Open, Close}
-use Rattle.book.specs.Rules.{Pattern, never, Rule, duty, trigger, bracket}
-use Rattle.book.specs.Sets.{with_pattern}
-use Rattle.book.specs.Grammar.{Item, item, mark, pattern_items, Spot, spot, started, deeper, later, size, rule_items, tokens_of}
-use Rattle.book.specs.Nodes.{expected_items, joint_items, opening_items, opening_terminal}
-use Rattle.book.specs.Reading.{Reads}
-use Rattle.book.specs.Readers.{coming, ToldBy}
+use Rattle.book.specs.declared.terminals.Terminal.TheVariants.{Duty, Before}
+use Rattle.book.specs.Rules.{Pattern, never, Rule, duty}
+use Rattle.book.specs.Grammar.{item, mark, pattern_items, Spot, spot, started, rule_items}
+use Rattle.book.specs.Nodes.{expected_items}
+use Rattle.book.specs.Readers.{coming}
 use Rattle.book.specs.Trees.{pure_pattern, pure_rule}
-use Rattle.book.proofs.Compose.{start, then, alike, part_of}
-use Rattle.book.proofs.Nested.{inside, some, eq_mid, eq_last, inv_opening, begun, begun_rest, begins, inv_act, inv_before, inv_deadline, inner, inv_start, inv_until, inv_end, inv_then, inv_duty, first, second, inv_left, inv_joint, inv_right, inv_close}
+use Rattle.book.proofs.Compose.{then, part_of}
+use Rattle.book.proofs.Nested.{inside, eq_last, inv_act, inv_before, inv_deadline}
 use Rattle.book.proofs.reader.read_duty.Goals as goal
 
 pub returns-in_err-act : goal.returns-in_err-act

@@ -1,16 +1,12 @@
-use Rattle.std.proofs.Common.{◌≡◌, ◌+◌, List, [], ◌∷◌, ◌++◌, sym, refl, ap, ◌∙◌, subst, append_assoc, append-nil}
+use Rattle.std.proofs.Common.{◌+◌, [], sym, refl}
 use Rattle.std.proofs.lemmas.Result.{err_from_is_err_and}
 use Rattle.book.specs.declared.openings.Opening.{Opening}
 use Rattle.book.specs.declared.openings.Opening.TheVariants.{Bracket}
-use Rattle.book.specs.declared.terms.BracketKind.{BracketKind}
-use Rattle.book.specs.declared.terms.BracketKind.TheVariants as kinds
-use Rattle.book.specs.declared.terminals.Terminal.TheVariants.{Joint}
-use Rattle.book.specs.Grammar.{item, mark, starts}
-use Rattle.book.specs.Nodes.{expected_terminal, expected_items, opening_terminal, opening_items, joint_items}
+use Rattle.book.specs.Grammar.{item, starts}
+use Rattle.book.specs.Nodes.{opening_terminal, opening_items}
 use Rattle.book.specs.Reading.{any}
-use Rattle.book.specs.Readers.{coming}
 use Rattle.book.proofs.Compose.{one, bad-first, wrong_first, faulty_first}
-use Rattle.book.proofs.Nested.{expected_goes, opening-goes}
+use Rattle.book.proofs.Nested.{opening-goes}
 use Rattle.book.proofs.reader.read_opening.Goals as goal
 
 pub returns-in_err-seen : goal.returns-in_err-seen

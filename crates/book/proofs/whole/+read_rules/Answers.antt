@@ -1,15 +1,14 @@
-use Rattle.std.proofs.Common.{◌≡◌, ◌+◌, ◌≤◌, List, [], ◌∷◌, ◌++◌, Ok, Err, vec_items, sym, refl, ap, ◌∙◌, subst, append-nil, arith, rules}
+use Rattle.std.proofs.Common.{◌≡◌, ◌+◌, [], ◌∷◌, Err, vec_items, sym, refl, ap, append-nil}
 use Rattle.std.proofs.lemmas.Result.{err_from_is_err_and}
 use Rattle.tokens.specs.Tokens.{ahead}
-use Rattle.book.specs.Sets.{no_letters}
 use Rattle.book.specs.declared.terminals.Terminal.TheVariants.{Semicolon}
 use Rattle.book.specs.Grammar.{mark, spot, top, rule_items}
 use Rattle.book.specs.Text.{meanings}
 use Rattle.book.specs.Readers.{coming}
-use Rattle.book.specs.Trees.{pure_rule, pure_rules}
+use Rattle.book.specs.Trees.{pure_rule}
 use Rattle.book.proofs.Compose.{then}
 use Rattle.book.proofs.Nested.{move_reads, move_told}
-use Rattle.book.proofs.Texts.{goes_on, at_end, rule_failed, semicolon_fails, more-rules, few-rules, move_rules, move_fails, move_goes}
+use Rattle.book.proofs.Texts.{goes_on, at_end, rule_failed, semicolon_fails, more-rules, move_rules, move_fails, move_goes}
 use Rattle.book.proofs.whole.+read_rules.Goals as goal
 
 pub returns-then-at_end : goal.returns-then-at_end

@@ -1,4 +1,4 @@
-use Rattle.std.proofs.Common.{sym, refl, ap, ◌∙◌}
+use Rattle.std.proofs.Common.{sym}
 use Rattle.book.specs.Text.{field_of}
 use Rattle.book.proofs.words.field_terminal.Goals as goal
 

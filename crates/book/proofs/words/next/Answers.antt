@@ -3,7 +3,7 @@ use Rattle.tokens.specs.Text.{Stretch, word, number, symbol, stray, end}
 use Rattle.tokens.specs.Text as text
 use Rattle.tokens.specs.Tokens.{stretch_of}
 use Rattle.book.specs.declared.terminals.Terminal.{Terminal}
-use Rattle.book.specs.Text.{good, bad, lexeme, meaning, meanings}
+use Rattle.book.specs.Text.{good, lexeme, meaning, meanings}
 use Rattle.book.specs.Readers.{is_end}
 use Rattle.book.proofs.words.next.Goals as goal
 

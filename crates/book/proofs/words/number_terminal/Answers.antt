@@ -1,6 +1,5 @@
-use Rattle.std.proofs.Common.{◌≡◌, ◌+◌, ◌*◌, true, false, leb, drop, sym, ap, ◌∙◌, arith, le-leb}
-use borrow.Author.Tests.{lt-leb}
-use Rattle.book.specs.Text.{number_of, value_from, leading_zero}
+use Rattle.std.proofs.Common.{◌+◌, ◌*◌, drop, sym, ◌∙◌, arith}
+use Rattle.book.specs.Text.{number_of}
 use Rattle.book.proofs.Bytes.{value-more, value_grows, value-end, too_large, in_range}
 use Rattle.book.proofs.words.number_terminal.Goals as goal
 

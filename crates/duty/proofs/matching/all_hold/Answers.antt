@@ -1,4 +1,4 @@
-use Rattle.std.proofs.Common.{sym, refl, ◌∙◌, rules}
+use Rattle.std.proofs.Common.{sym, ◌∙◌}
 use Rattle.std.proofs.lemmas.List.{at_drop_all}
 use Rattle.duty.specs.Matching.{all_hold}
 use Rattle.duty.proofs.Matches.{hold_not, hold_so, number_at}

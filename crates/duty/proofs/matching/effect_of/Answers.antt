@@ -1,4 +1,4 @@
-use Rattle.std.proofs.Common.{is_some, Some, None, sym, refl, ap, ◌∙◌}
+use Rattle.std.proofs.Common.{is_some, Some, None, ap, ◌∙◌}
 use Rattle.book.specs.Trees.{pure_pattern}
 use Rattle.duty.proofs.Matches.{effect_ends, effect_is}
 use Rattle.duty.proofs.matching.effect_of.Goals as goal

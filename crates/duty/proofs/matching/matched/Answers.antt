@@ -1,4 +1,4 @@
-use Rattle.std.proofs.Common.{true, false, sym, refl, ap, ◌∙◌}
+use Rattle.std.proofs.Common.{true, false, sym, ap, ◌∙◌}
 use Rattle.book.specs.Trees.{pure_pattern}
 use Rattle.duty.specs.Matching.{matches, bind, all_hold}
 use Rattle.duty.proofs.Matches.{lines_none, lines_test}

@@ -1,9 +1,7 @@
-use Rattle.std.proofs.Common.{◌≡◌, ◌+◌, ◌-◌, false, List, [], ◌∷◌, length, get_or, take, drop, sym, refl, ap, ◌∙◌, subst, arith, length-drop, rules, true-eqb}
+use Rattle.std.proofs.Common.{◌+◌, length, sym, ap, ◌∙◌, subst, arith, length-drop, true-eqb}
 use Rattle.std.proofs.lemmas.List.{take_rest}
 use Rattle.book.specs.Rules as pure
-use Rattle.book.specs.Sizes.{nodes}
 use Rattle.book.specs.Trees.{pure_pattern, pure_rule}
-use Rattle.duty.specs.Groups.{blank}
 use Rattle.duty.specs.Stepping.{StepsAt}
 use Rattle.duty.proofs.ByKind.{some-entry, duty-step, once_waits, once_runs, else_second, else_first, else_met, else_breached, else_open, and_two, and_left, and_right, left_part, right_part, both_stepped, both_open, both-breached, both-met, one_left, one_right, each_watched, each-breached, each_closed}
 use Rattle.duty.specs.declared.outcomes.Outcome.TheVariants.{Satisfied, Breached, Open as StillOpen}

@@ -1,4 +1,4 @@
-use Rattle.std.proofs.Common.{◌≡◌, ◌+◌, ◌-◌, ◌*◌, ◌≤◌, length}
+use Rattle.std.proofs.Common.{◌+◌, ◌-◌, ◌*◌, ◌≤◌, length}
 use Rattle.book.specs.Trees.{pure_rule}
 use Rattle.duty.proofs.Loops.{Goes}
 use Rattle.duty.proofs.stepping.+steps.Given as goal

@@ -1,4 +1,4 @@
-use Rattle.std.proofs.Common.{false, [], ◌∷◌, refl}
+use Rattle.std.proofs.Common.{false, [], ◌∷◌}
 use Rattle.book.specs.Rules.{duty}
 use Rattle.book.specs.Trees.{pure_pattern}
 use Rattle.duty.specs.Matching.{effect}

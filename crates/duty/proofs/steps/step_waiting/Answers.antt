@@ -1,4 +1,4 @@
-use Rattle.std.proofs.Common.{false, [], ◌∷◌, sym, refl, ap}
+use Rattle.std.proofs.Common.{false, [], ◌∷◌, sym, ap}
 use Rattle.book.specs.Rules.{trigger}
 use Rattle.book.specs.Trees.{pure_pattern, pure_rule}
 use Rattle.book.specs.declared.terms.TriggerKind.TheVariants.{Once}

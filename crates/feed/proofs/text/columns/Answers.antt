@@ -1,5 +1,5 @@
 use Rattle.std.proofs.Common.{◌≡◌, ◌+◌, ◌-◌, take, drop, ap, ◌∙◌, arith}
-use Rattle.feed.specs.Text.{start, width, column, field_text}
+use Rattle.feed.specs.Text.{column, field_text}
 use Rattle.feed.proofs.text.columns.Goals as goal
 
 pub returns : goal.returns

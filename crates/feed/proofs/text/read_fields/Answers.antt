@@ -1,4 +1,3 @@
-use Rattle.std.proofs.Common.{sym}
 use Rattle.std.proofs.lemmas.Result.{err_from_is_err_and}
 use Rattle.feed.specs.Text.{text_fields}
 use Rattle.feed.proofs.text.read_fields.Goals as goal

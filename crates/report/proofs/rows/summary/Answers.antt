@@ -1,6 +1,6 @@
 use Rattle.std.proofs.Common.{◌≡◌, string_bytes, ap, ◌∙◌}
 use Rattle.std.proofs.lemmas.Result.{IfOk-weaker}
-use Rattle.report.specs.Rows.{time_text, head_text, summary_text}
+use Rattle.report.specs.Rows.{time_text, summary_text}
 use Rattle.report.proofs.rows.summary.Goals as goal
 
 pub returns : goal.returns

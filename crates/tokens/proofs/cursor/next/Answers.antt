@@ -1,7 +1,7 @@
 use Rattle.std.proofs.Common.{◌≡◌, ℕ, ◌+◌, [], ◌∷◌, sym, refl, ap, ◌∙◌, arith}
 use Rattle.tokens.specs.Text.{placed}
 use Rattle.tokens.specs.Tokens.{tokens_at, stretch_of}
-use Rattle.tokens.proofs.Lexing.{at_end, token-goes}
+use Rattle.tokens.proofs.Lexing.{at_end}
 use Rattle.tokens.proofs.cursor.next.Goals as goal
 
 pub returns-then-place-text : goal.returns-then-place-text

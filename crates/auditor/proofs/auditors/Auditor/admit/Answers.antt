@@ -1,4 +1,4 @@
-use Rattle.std.proofs.Common.{sym, ◌∙◌, subst, arith}
+use Rattle.std.proofs.Common.{sym, subst, arith}
 use Rattle.feed.specs.declared.faults.Item.TheVariants.{Faulty}
 use Rattle.auditor.specs.Steps.{Admits}
 use Rattle.auditor.proofs.Grows.{log-full, log_open}

@@ -1,5 +1,4 @@
-use Rattle.std.proofs.Common.{◌≡◌, true, List, [], vec_items, sym, refl, ap, subst, arith}
-use Rattle.book.specs.Faults.{Accepted}
+use Rattle.std.proofs.Common.{◌≡◌, List, [], vec_items, sym, refl, subst, arith}
 use Rattle.book.specs.Kept.{Kept, Written}
 use Rattle.book.specs.declared.rules.Rule.{Rule}
 use Rattle.book.proofs.book.Book.empty.Goals as goal

@@ -1,4 +1,4 @@
-use Rattle.std.proofs.Common.{◌≡◌, ◌≤◌, [], ◌++◌, length, vec_items, sym, refl, ap, ◌∙◌, subst, arith, take_all, rules}
+use Rattle.std.proofs.Common.{◌≤◌, [], ◌++◌, length, vec_items, refl, ap, ◌∙◌, subst, arith, take_all, rules}
 use Rattle.book.specs.Sizes.{all_nodes}
 use Rattle.book.specs.Trees.{pure_rules}
 use Rattle.duty.specs.Verdicts.{verdicts}

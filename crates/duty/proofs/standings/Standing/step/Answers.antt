@@ -1,4 +1,4 @@
-use Rattle.std.proofs.Common.{◌≡◌, ◌≤◌, [], ◌∷◌, ◌++◌, length, vec_items, sym, refl, ap, ◌∙◌, arith, take_all}
+use Rattle.std.proofs.Common.{◌≤◌, [], ◌∷◌, ◌++◌, length, vec_items, sym, refl, ap, ◌∙◌, arith, take_all}
 use Rattle.duty.specs.Verdicts.{verdicts}
 use Rattle.duty.specs.Sheet.{book_sheet}
 use Rattle.duty.specs.Standings.{rules_of}

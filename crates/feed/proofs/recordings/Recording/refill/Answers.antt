@@ -1,4 +1,4 @@
-use Rattle.std.proofs.Common.{◌≡◌, ◌+◌, ◌/◌, sym, ap, ◌∙◌, rules}
+use Rattle.std.proofs.Common.{◌≡◌, ap, ◌∙◌, rules}
 use Rattle.feed.specs.Inputs.{counted, items_of}
 use Rattle.feed.specs.Recorded.{followed}
 use Rattle.feed.specs.Text.{text_line}
