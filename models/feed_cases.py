@@ -104,7 +104,6 @@ def report(l):
     o=[f'sound lines: {len(s)}','first time: '+(str(s[0][1][0]) if s else 'none'),'last time: '+(str(s[-1][1][0]) if s else 'none'),f'faults: {len(f)}']
     for x in f: o.append(f'{x[1]} {WORDS[x[1]]}: station {x[2]}, item {x[3]}, '+(f'field {x[4]} {NAMES[x[4]-1]}' if x[4] else 'no field'))
     return '\n'.join(o)+'\n'
-out.append('report on a joined feed'); out.extend(report(merge(a,b)).splitlines())
 D = os.path.join(HERE, '..', 'crates', 'feed_cases', '')
 open(D+'data/text.dat','wb').write(text); open(D+'data/words.txt','w').write('\n'.join(' '.join(map(str,ws[i:i+4])) for i in range(0,len(ws),4))+'\n')
 open(D+'data/joined.dat','wb').write(jt); open(D+'data/joined.txt','w').write('\n'.join(' '.join(map(str,jw[i:i+4])) for i in range(0,len(jw),4))+'\n')
@@ -117,3 +116,8 @@ nb=b''.join(line(*v) for v in north[:3])+line(215,b'011',7,3,21,None)+b''.join(l
 sb=b''.join(line(*v) for v in south)+line(300,5,2,6,32,245)[:20]
 A = os.path.join(HERE, '..', 'crates', 'audit', '')
 open(A+'data/north.log','wb').write(nb); open(A+'data/south.log','wb').write(sb)
+open(A+'args','w').write('recording\nnorth.log\nsouth.log\n')
+open(A+'stdout','w').write(report(merge(feed(nb,35,text_item,1,1),feed(sb,35,text_item,2,1))))
+R = os.path.join(HERE, '..', 'crates', 'report_cases', '')
+open(R+'data/joined.dat','wb').write(jt); open(R+'data/joined.txt','w').write('\n'.join(' '.join(map(str,jw[i:i+4])) for i in range(0,len(jw),4))+'\n')
+open(R+'stdout','w').write('report on a joined feed\n'+report(merge(a,b)))

@@ -1,6 +1,6 @@
 // What the calls on an auditor answer.
 ghost use Rattle.std.specs.Prelude.{◌≡◌};
-ghost use Rattle.auditor.specs.Answers.{alone as aloneNumbers, refusal_numbers, refusal_words, stop_refusal};
+ghost use Rattle.auditor.specs.Answers.{alone as alone_numbers, refusal_numbers, refusal_words, stop_refusal};
 
 use feed::faults::{Fault, FaultNumbers};
 
@@ -25,7 +25,7 @@ pub enum Refusal {
 
 // A number with no station, item or field.
 fn alone(number: u8) -> FaultNumbers
-    ensures { result ≡ aloneNumbers number }
+    ensures { result ≡ alone_numbers number }
 {
     FaultNumbers {
         number,

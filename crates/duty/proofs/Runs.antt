@@ -190,9 +190,9 @@ late_each p q s inside f i (l ∷ ls) = go (late_less i rest (late_each p q s in
     rest = trigger_v Each p q (V s) f (suc i) ls
 
     go : Late i rest → (m : Effect) → Late i (trigger_at Each i m (λ g. V s g (suc i) ls) rest)
-    go lateRest Ends = le_refl i
-    go lateRest (Acts g) = late_join i (V s g (suc i) ls) rest (late_less i (V s g (suc i) ls) (rw (inside g (suc i) ls) (late_run (step s) (start s g) (suc i) ls))) lateRest
-    go lateRest Passes = lateRest
+    go late_rest Ends = le_refl i
+    go late_rest (Acts g) = late_join i (V s g (suc i) ls) rest (late_less i (V s g (suc i) ls) (rw (inside g (suc i) ls) (late_run (step s) (start s g) (suc i) ls))) late_rest
+    go late_rest Passes = late_rest
 
 watch-run : (p q : Pattern) (s : Rule) → Inside s → (f : Bindings) (ds : List (Open s)) (i : ℕ) (ls : List Line) → run (step (trigger Each p q s)) (watch f false ds) i ls ≡ joined_to (λ d. run (step s) d i ls) ds (trigger_v Each p q (V s) f i ls)
 unfolding step

@@ -1,11 +1,11 @@
 // Steps that go no deeper: a duty, a trigger that waits, an `each` whose duties have stepped.
 ghost use Rattle.std.specs.Prelude.{◌≡◌, ◌≤◌, T};
-ghost use Rattle.book.specs.Rules.{duty as dutyRule, trigger};
+ghost use Rattle.book.specs.Rules.{duty as duty_rule, trigger};
 ghost use Rattle.book.specs.Sizes.{pattern_number};
 ghost use Rattle.book.specs.Trees.{pure_pattern, pure_rule};
 ghost use Rattle.book.specs.declared.terms.TriggerKind.TheVariants.{Once};
 ghost use Rattle.duty.specs.declared.matching.Effect.TheVariants.{Passes};
-ghost use Rattle.duty.specs.Matching.{Bindings, effect as effectAt};
+ghost use Rattle.duty.specs.Matching.{Bindings, effect as effect_at};
 ghost use Rattle.duty.specs.Open.{start as starting, duty_step, once_step, each_effect};
 ghost use Rattle.duty.specs.Drafts.{Adds};
 ghost use Rattle.duty.specs.Places.{Placed};
@@ -31,8 +31,8 @@ pub(crate) fn step_duty(
     line: &Line,
     draft: &mut Draft,
 ) -> Outcome
-    requires { Placed place (dutyRule kind (pure_pattern act.now) (pure_pattern deadline.now)) }
-    ensures { Came (dutyRule kind (pure_pattern act.now) (pure_pattern deadline.now)) place.node place.level (duty_step kind letters.now (effectAt (pure_pattern act.now) (pure_pattern deadline.now) letters.now line.now)) draft.old draft.new result }
+    requires { Placed place (duty_rule kind (pure_pattern act.now) (pure_pattern deadline.now)) }
+    ensures { Came (duty_rule kind (pure_pattern act.now) (pure_pattern deadline.now)) place.node place.level (duty_step kind letters.now (effect_at (pure_pattern act.now) (pure_pattern deadline.now) letters.now line.now)) draft.old draft.new result }
 {
     match effect_of(act, deadline, line, letters) {
         Effect::Ends => match kind {
@@ -61,7 +61,7 @@ pub(crate) fn step_waiting(
     draft: &mut Draft,
 ) -> Outcome
     requires { Placed place (trigger Once (pure_pattern start.now) (pure_pattern end.now) (pure_rule duty.now)) }
-    ensures { Came (trigger Once (pure_pattern start.now) (pure_pattern end.now) (pure_rule duty.now)) place.node place.level (once_step letters.now (effectAt (pure_pattern start.now) (pure_pattern end.now) letters.now line.now) (starting (pure_rule duty.now))) draft.old draft.new result }
+    ensures { Came (trigger Once (pure_pattern start.now) (pure_pattern end.now) (pure_rule duty.now)) place.node place.level (once_step letters.now (effect_at (pure_pattern start.now) (pure_pattern end.now) letters.now line.now) (starting (pure_rule duty.now))) draft.old draft.new result }
 {
     match effect_of(start, end, line, letters) {
         Effect::Ends => Outcome::Satisfied,
@@ -86,7 +86,7 @@ pub(crate) fn each_effect(
 ) -> Effect
     requires start { pattern_number (pure_pattern start.now) ≤ 9999999 }
     requires end { pattern_number (pure_pattern end.now) ≤ 9999999 }
-    ensures { result ≡ each_effect mark (effectAt (pure_pattern start.now) (pure_pattern end.now) letters.now line.now) }
+    ensures { result ≡ each_effect mark (effect_at (pure_pattern start.now) (pure_pattern end.now) letters.now line.now) }
 {
     if mark {
         Effect::Ends
@@ -135,7 +135,7 @@ pub(crate) fn close_each(
 
 // Neither pattern matches this line, whichever letters are bound.
 fn neither_matches(act: &Pattern, end: &Pattern, line: &Line) -> bool
-    ensures { T result → (f : Bindings) → effectAt (pure_pattern act.now) (pure_pattern end.now) f line.now ≡ Passes }
+    ensures { T result → (f : Bindings) → effect_at (pure_pattern act.now) (pure_pattern end.now) f line.now ≡ Passes }
 {
     never_matches(end, line) && never_matches(act, line)
 }
