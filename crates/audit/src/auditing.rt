@@ -3,8 +3,7 @@ use crate::books::told;
 use crate::files::bytes_of;
 use crate::recording::opened;
 use crate::turns::{pages_of, push_pages, push_takes, taken_by};
-use crate::{Status, USAGE};
-use anyhow::anyhow;
+use crate::{Status, misused};
 use auditor::answers::{Refusal, Stop, Taken};
 use feed::faults::Fault;
 use feed::feeds::Feed;
@@ -132,6 +131,6 @@ pub fn audit(rt: &HostRuntime, paths: &[String]) -> anyhow::Result<Status> {
             let feed = Joined::new(opened(left.as_slice(), 1)?, opened(right.as_slice(), 2)?);
             audit_feed(rt, book.as_slice(), feed, items)
         }
-        _ => Err(anyhow!("{USAGE}")),
+        _ => misused(rt),
     }
 }

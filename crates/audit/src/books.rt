@@ -1,7 +1,7 @@
 // `audit book BOOK`: a listing of an accepted book, or why and where the text is refused.
 use crate::files::bytes_of;
 use crate::listing::rule_rows;
-use crate::{Status, USAGE};
+use crate::{Status, misused};
 use anyhow::anyhow;
 use book::book::Book;
 use book::refusals::{Fault, Reason, Refusal};
@@ -86,7 +86,7 @@ pub fn told(rt: &HostRuntime, text: &[u8], refusal: Refusal) -> anyhow::Result<S
 // The listing of the book, or its refusal.
 pub fn list_book(rt: &HostRuntime, paths: &[String]) -> anyhow::Result<Status> {
     let [path] = paths else {
-        return Err(anyhow!("{USAGE}"));
+        return misused(rt);
     };
     let text = bytes_of(rt, path.as_str())?;
     match read_book(rt.alloc(), text.as_slice()) {

@@ -29,6 +29,12 @@ pub enum Status {
     Refused,
 }
 
+// Says how the program is called.
+pub fn misused(rt: &HostRuntime) -> anyhow::Result<Status> {
+    eprintln!(rt; "audit: {USAGE}")?;
+    Ok(Status::Refused)
+}
+
 fn run(rt: &HostRuntime) -> anyhow::Result<Status> {
     let args: Vec<String> = env::args(rt)?.skip(1).collect(rt.alloc())?;
     match args.as_slice() {
@@ -39,7 +45,7 @@ fn run(rt: &HostRuntime) -> anyhow::Result<Status> {
             "witness" => compare_makes(rt, paths),
             _ => audit(rt, args.as_slice()),
         },
-        [] => Err(anyhow!("{USAGE}")),
+        [] => misused(rt),
     }
 }
 

@@ -1,6 +1,6 @@
 // `audit recording LOG [LOG]`: a report on a recording, or on two joined.
 use crate::files::bytes_of;
-use crate::{Status, USAGE};
+use crate::{Status, misused};
 use anyhow::anyhow;
 use feed::feeds::Feed;
 use feed::joins::Joined;
@@ -42,6 +42,6 @@ pub fn report_on(rt: &HostRuntime, logs: &[String]) -> anyhow::Result<Status> {
             let right_feed = opened(right_text.as_slice(), 2)?;
             print_report(rt, &mut Joined::new(left_feed, right_feed))
         }
-        _ => Err(anyhow!("{USAGE}")),
+        _ => misused(rt),
     }
 }

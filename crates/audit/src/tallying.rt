@@ -3,7 +3,7 @@ use crate::auditing::{run_feed, tell_stop};
 use crate::files::bytes_of;
 use crate::recording::opened;
 use crate::turns::taken_by;
-use crate::{Status, USAGE};
+use crate::{Status, misused};
 use anyhow::anyhow;
 use duty::verdicts::Verdict;
 use roundup::rounding::round_up;
@@ -71,7 +71,7 @@ fn tally_one(
 // The tally of each recording, and of all together.
 pub fn tally(rt: &HostRuntime, paths: &[String]) -> anyhow::Result<Status> {
     let [book, first, rest @ ..] = paths else {
-        return Err(anyhow!("{USAGE}"));
+        return misused(rt);
     };
     let book = bytes_of(rt, book.as_str())?;
     let mut all: Vec<Verdict> = Vec::new(rt.alloc());

@@ -4,7 +4,7 @@ use crate::books::told;
 use crate::files::bytes_of;
 use crate::recording::opened;
 use crate::turns::{pages_of, push_pages, push_take, taken_by, takes_for};
-use crate::{Status, USAGE};
+use crate::{Status, misused};
 use anyhow::anyhow;
 use feed::faults::Item;
 use feed::feeds::Feed;
@@ -74,7 +74,7 @@ fn compare(rt: &HostRuntime, turns: &[Turn], count: &TurnCount) -> anyhow::Resul
 // The first recording as text, the second as packed words.
 pub fn compare_makes(rt: &HostRuntime, paths: &[String]) -> anyhow::Result<Status> {
     let [book, left, right] = paths else {
-        return Err(anyhow!("{USAGE}"));
+        return misused(rt);
     };
     let book = bytes_of(rt, book.as_str())?;
     let left = bytes_of(rt, left.as_str())?;

@@ -1,4 +1,4 @@
-// How long a line takes: `bench time` prints nanoseconds per line and per open entry, for idle lines that an auditor takes
+// How long a line takes: `bench_takes time` prints nanoseconds per line and per open entry, for idle lines that an auditor takes
 // from a text recording, reading included: for books of 1, 4 and 16 rules with an almost empty and an almost full sheet, and
 // for books whose deadline names no kind; and microseconds to read a large book. Run with no argument it prints the
 // sizes alone.
