@@ -5,7 +5,7 @@ ghost use Rattle.feed.specs.Text.{text_line};
 ghost use Rattle.feed.specs.Packed.{packed_line};
 ghost use Rattle.feed.specs.declared.faults.FaultKind.{FaultKind};
 ghost use Rattle.feed.specs.declared.lines.Line.{Line};
-ghost use Rattle.std.proofs.Common.{rules};
+ghost use Rattle.std.proofs.Common.{lit<, lit≤};
 
 use crate::faults::FaultKind;
 use crate::lines::Line;
@@ -51,7 +51,7 @@ impl Encoding for Text {
 
     ghost reads = { text_line };
 
-    ghost some = { Prim.search rules };
+    ghost some = { lit< tt };
 
     fn width() -> usize {
         35
@@ -78,7 +78,7 @@ impl Encoding for Packed {
 
     ghost reads = { packed_line };
 
-    ghost some = { Prim.search rules };
+    ghost some = { lit< tt };
 
     fn width() -> usize {
         4
@@ -94,11 +94,11 @@ impl Encoding for Packed {
 }
 
 impl Fitting for Text {
-    ghost fits = { Prim.search rules };
+    ghost fits = { lit≤ tt };
 }
 
 impl Fitting for Packed {
-    ghost fits = { Prim.search rules };
+    ghost fits = { lit≤ tt };
 }
 
 // Why an opening was refused.

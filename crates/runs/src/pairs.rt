@@ -39,8 +39,8 @@ pub fn audit_both<F: Feeds, G: Feeds, O: Observer>(
 ) -> Result<Pair, Refusal>
     ensures { OnText
         (Law (record {
-          left = F.Feeds.lists left.entry.now;
-          left' = F.Feeds.lists left.exit.now;
+          left = F.Feeds.lists left.old;
+          left' = F.Feeds.lists left.new;
           right = G.Feeds.lists right.old;
           right' = G.Feeds.lists right.new;
           turns = turns.old;
@@ -48,7 +48,7 @@ pub fn audit_both<F: Feeds, G: Feeds, O: Observer>(
           saw = O.Observer.saw observer.old;
           saw' = O.Observer.saw observer.new;
         }))
-        ((left.exit.now ≡ left.entry.now) × (right.new ≡ right.old) × (turns.new ≡ turns.old) × (observer.new ≡ observer.old))
+        ((left.new ≡ left.old) × (right.new ≡ right.old) × (turns.new ≡ turns.old) × (observer.new ≡ observer.old))
         text.now result }
 {
     let mut first = opened(heap, text)?;
