@@ -58,20 +58,35 @@ fn print_refusal(rt: &HostRuntime, refusal: OpenRefusal) -> anyhow::Result<()> {
     Ok(())
 }
 
-// A feed over the input, drained or refused.
-fn text_case(rt: &HostRuntime, input: &[u8], station: u16, first: u64) -> anyhow::Result<()> {
-    let len = input.len();
-    println!(rt; "text feed: {len} bytes, station {station}, first {first}")?;
-    match InputFeed::<Text>::open(input, station, first) {
-        Ok(mut feed) => drain(rt, &mut feed, 100),
-        Err(refusal) => print_refusal(rt, refusal),
-    }
+// An encoding by name, and what its inputs are counted in.
+#[derive(Clone, Copy)]
+struct Make {
+    name: &'static str,
+    unit: &'static str,
 }
 
-fn packed_case(rt: &HostRuntime, input: &[u32], station: u16, first: u64) -> anyhow::Result<()> {
+const TEXT: Make = Make {
+    name: "text",
+    unit: "bytes",
+};
+
+const PACKED: Make = Make {
+    name: "packed",
+    unit: "words",
+};
+
+// A feed over the input, drained or refused.
+fn case<E: Encoding>(
+    rt: &HostRuntime,
+    make: Make,
+    input: &[E::Unit],
+    station: u16,
+    first: u64,
+) -> anyhow::Result<()> {
+    let Make { name, unit } = make;
     let len = input.len();
-    println!(rt; "packed feed: {len} words, station {station}, first {first}")?;
-    match InputFeed::<Packed>::open(input, station, first) {
+    println!(rt; "{name} feed: {len} {unit}, station {station}, first {first}")?;
+    match InputFeed::<E>::open(input, station, first) {
         Ok(mut feed) => drain(rt, &mut feed, 100),
         Err(refusal) => print_refusal(rt, refusal),
     }
@@ -94,45 +109,53 @@ fn count<F: Feed>(rt: &HostRuntime, feed: &mut F) -> anyhow::Result<()> {
     }
 }
 
-// Openings at the limits and one past them, over blank input.
-fn text_opening(rt: &HostRuntime, len: usize, station: u16, first: u64) -> anyhow::Result<()> {
-    println!(rt; "open text: {len} bytes, station {station}, first {first}")?;
-    let input = vec![in rt.alloc(); b' '; len]?;
-    match InputFeed::<Text>::open(input.as_slice(), station, first) {
+// An opening over an input of one unit repeated.
+fn opening<E: Encoding>(
+    rt: &HostRuntime,
+    make: Make,
+    filling: E::Unit,
+    len: usize,
+    station: u16,
+    first: u64,
+) -> anyhow::Result<()> {
+    let Make { name, unit } = make;
+    println!(rt; "open {name}: {len} {unit}, station {station}, first {first}")?;
+    let input = vec![in rt.alloc(); filling; len]?;
+    match InputFeed::<E>::open(input.as_slice(), station, first) {
         Ok(mut feed) => count(rt, &mut feed),
         Err(refusal) => print_refusal(rt, refusal),
     }
 }
 
+// Text of blanks.
+fn text_opening(rt: &HostRuntime, len: usize, station: u16, first: u64) -> anyhow::Result<()> {
+    opening::<Text>(rt, TEXT, b' ', len, station, first)
+}
+
+// Words over the limit of a time.
 fn packed_opening(rt: &HostRuntime, len: usize, station: u16, first: u64) -> anyhow::Result<()> {
-    println!(rt; "open packed: {len} words, station {station}, first {first}")?;
-    let input = vec![in rt.alloc(); 10_000_000u32; len]?;
-    match InputFeed::<Packed>::open(input.as_slice(), station, first) {
-        Ok(mut feed) => count(rt, &mut feed),
-        Err(refusal) => print_refusal(rt, refusal),
-    }
+    opening::<Packed>(rt, PACKED, 10_000_000, len, station, first)
 }
 
 // The numbers of a text, parted by white space.
 fn numbers(rt: &HostRuntime, path: &str) -> anyhow::Result<Vec<u32>> {
     let text = fs::read_to_string(rt, path)?;
-    let mut words = Vec::new(rt.alloc());
-    for word in text.as_str().split_whitespace() {
-        words.push(word.parse::<u32>()?)?;
-    }
-    Ok(words)
+    text.as_str()
+        .split_whitespace()
+        .map(|word| -> anyhow::Result<u32> { Ok(word.parse::<u32>()?) })
+        .try_collect(rt.alloc())
 }
 
 // The first bytes or words of the tables, with every remainder.
 fn remainders(rt: &HostRuntime, text: &[u8], words: &[u32]) -> anyhow::Result<()> {
     for len in [0usize, 1, 34, 35, 36, 69, 70] {
         if len <= text.len() {
-            text_case(rt, &text[0..len], 1, 1)?;
+            case::<Text>(rt, TEXT, &text[0..len], 1, 1)?;
         }
     }
     for len in 0..9usize {
         if len <= words.len() {
-            packed_case(rt, &words[0..len], 9_999, 9_990_000)?;
+            case::<Packed>(rt, PACKED, &words[0..len], 9_999, 9_990_000)?;
         }
     }
     Ok(())
@@ -182,8 +205,8 @@ fn joined(rt: &HostRuntime, text: &[u8], words: &[u32]) -> anyhow::Result<()> {
 fn run(rt: &HostRuntime) -> anyhow::Result<()> {
     let text = fs::read(rt, "text.dat")?;
     let words = numbers(rt, "words.txt")?;
-    text_case(rt, text.as_slice(), 7, 41)?;
-    packed_case(rt, words.as_slice(), 8, 51)?;
+    case::<Text>(rt, TEXT, text.as_slice(), 7, 41)?;
+    case::<Packed>(rt, PACKED, words.as_slice(), 8, 51)?;
     remainders(rt, text.as_slice(), words.as_slice())?;
     openings(rt)?;
     let text = fs::read(rt, "joined.dat")?;

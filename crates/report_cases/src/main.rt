@@ -13,11 +13,10 @@ use std::fs;
 // The numbers of a text, parted by white space.
 fn numbers(rt: &HostRuntime, path: &str) -> anyhow::Result<Vec<u32>> {
     let text = fs::read_to_string(rt, path)?;
-    let mut words = Vec::new(rt.alloc());
-    for word in text.as_str().split_whitespace() {
-        words.push(word.parse::<u32>()?)?;
-    }
-    Ok(words)
+    text.as_str()
+        .split_whitespace()
+        .map(|word| -> anyhow::Result<u32> { Ok(word.parse::<u32>()?) })
+        .try_collect(rt.alloc())
 }
 
 // The report on all that waits in a joined feed.
