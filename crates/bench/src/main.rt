@@ -17,48 +17,38 @@ const LINES: u32 = 200_000;
 
 // A line of a kind, all else 0.
 fn line_of(kind: u32) -> anyhow::Result<Line> {
-    match Line::new(0, kind, 0, 0, 0, 0) {
-        Ok(line) => Ok(line),
-        Err(_) => Err(anyhow!("a kind is at most 999")),
-    }
+    Line::new(0, kind, 0, 0, 0, 0).map_err(|_| anyhow!("a kind is at most 999"))
 }
 
 // A book of so many equal rules, before any line.
-fn standing_of(rt: &HostRuntime, rules: u32) -> anyhow::Result<Standing> {
-    let mut text = String::new(rt.alloc());
-    for _ in 0..rules {
-        text.push_str(RULE)?;
-    }
-    match read_book(rt.alloc(), text.as_bytes()) {
-        Ok(book) => Ok(Standing::open(rt.alloc(), book)?),
-        Err(_) => Err(anyhow!("the book was refused")),
-    }
+fn standing_of(rt: &HostRuntime, rules: usize) -> anyhow::Result<Standing> {
+    let text = RULE.repeat(rt.alloc(), rules)?;
+    let book = read_book(rt.alloc(), text.as_bytes()).map_err(|_| anyhow!("the book was refused"))?;
+    Ok(Standing::open(rt.alloc(), book)?)
 }
 
 // Opens a duty for each rule, line by line, while the sheet has room for one more of each.
 fn fill(standing: &mut Standing, rules: usize) -> anyhow::Result<u32> {
     let opening = line_of(1)?;
-    let mut number = 0u32;
-    for _ in 0..256u32 {
+    let mut last = 0u32;
+    for number in 1..257u32 {
         if standing.sheet().len().saturating_add(rules) > 255 {
             break;
         }
-        number = number.saturating_add(1);
+        last = number;
         if standing.step(&opening, number).is_err() {
             break;
         }
     }
-    Ok(number)
+    Ok(last)
 }
 
 // Idle lines, and how many nanoseconds each took.
 fn time_idle(rt: &HostRuntime, standing: &mut Standing, before: u32) -> anyhow::Result<()> {
     let idle = line_of(2)?;
     let start = Instant::now(rt)?;
-    let mut number = before;
-    for _ in 0..LINES {
-        number = number.saturating_add(1);
-        let _ = standing.step(&idle, number);
+    for line in 1..=LINES {
+        let _ = standing.step(&idle, before.saturating_add(line));
     }
     let nanos = start.elapsed(rt)?.as_nanos();
     let per_line = nanos / u128::from(LINES);
@@ -68,7 +58,7 @@ fn time_idle(rt: &HostRuntime, standing: &mut Standing, before: u32) -> anyhow::
     Ok(())
 }
 
-fn measure(rt: &HostRuntime, rules: u32, timed: bool) -> anyhow::Result<()> {
+fn measure(rt: &HostRuntime, rules: usize, timed: bool) -> anyhow::Result<()> {
     let mut standing = standing_of(rt, rules)?;
     let entries = standing.sheet().len();
     println!(rt; "{rules} rules, {entries} entries")?;
@@ -76,7 +66,7 @@ fn measure(rt: &HostRuntime, rules: u32, timed: bool) -> anyhow::Result<()> {
         time_idle(rt, &mut standing, 0)?;
     }
     let mut standing = standing_of(rt, rules)?;
-    let number = fill(&mut standing, rules as usize)?;
+    let number = fill(&mut standing, rules)?;
     let entries = standing.sheet().len();
     println!(rt; "{rules} rules, {entries} entries")?;
     if timed {
@@ -85,17 +75,14 @@ fn measure(rt: &HostRuntime, rules: u32, timed: bool) -> anyhow::Result<()> {
     Ok(())
 }
 
-// A text of 8,192 bytes with 16 rules of four nodes each.
+// One of 16 rules of a large book.
+const LARGE_RULE: &str =
+    "each [kind 1, run A] until [kind 9] then (must [kind 3, run A] before [time B if B >= 2 * A + 240] else mustnot [kind 4] before never);\n";
+
+// A text of 8,192 bytes with 16 rules of four nodes each, each filled up with blanks.
 fn large_text(rt: &HostRuntime) -> anyhow::Result<String> {
-    let mut text = String::new(rt.alloc());
-    for _ in 0..16u32 {
-        text.push_str("each [kind 1, run A] until [kind 9] then (must [kind 3, run A] before ")?;
-        text.push_str("[time B if B >= 2 * A + 240] else mustnot [kind 4] before never);\n")?;
-        for _ in 0..376u32 {
-            text.push(' ')?;
-        }
-    }
-    Ok(text)
+    let rule = format!(in rt.alloc(); "{LARGE_RULE:<512}")?;
+    Ok(rule.as_str().repeat(rt.alloc(), 16)?)
 }
 
 // How long reading that book takes, or how large it is.
@@ -119,7 +106,7 @@ fn reading(rt: &HostRuntime, timed: bool) -> anyhow::Result<()> {
 
 fn run(rt: &HostRuntime) -> anyhow::Result<()> {
     let timed = env::args(rt)?.skip(1).count() > 0;
-    for rules in [1u32, 4, 16] {
+    for rules in [1usize, 4, 16] {
         measure(rt, rules, timed)?;
     }
     reading(rt, timed)

@@ -21,30 +21,21 @@ const TIMES: &str =
     "each [kind 1, time B] until never then must [kind 3] before [time C if C >= B + 240];\n";
 
 // Idle lines for each measure.
-const LINES: u32 = 200_000;
+const LINES: usize = 200_000;
 
 // A line of kind 1, which opens a duty of every rule, and one of kind 2, which no rule asks for.
 const OPENING: &str = " 1234567   1 1017 2003 1021    250\n";
 
 const IDLE: &str = " 1234567   2 1017 2003 1021    250\n";
 
-// A text so many times over.
-fn repeated(rt: &HostRuntime, text: &str, times: u32) -> anyhow::Result<String> {
-    let mut all = String::new(rt.alloc());
-    for _ in 0..times {
-        all.push_str(text)?;
-    }
-    Ok(all)
-}
-
 // An auditor on a book of so many equal rules.
-fn auditor_of(rt: &HostRuntime, rule: &str, rules: u32) -> anyhow::Result<Auditor> {
-    let text = repeated(rt, rule, rules)?;
+fn auditor_of(rt: &HostRuntime, rule: &str, rules: usize) -> anyhow::Result<Auditor> {
+    let text = rule.repeat(rt.alloc(), rules)?;
     let mut auditor = Auditor::new(rt.alloc())?;
-    match auditor.open(rt.alloc(), text.as_bytes()) {
-        Ok(()) => Ok(auditor),
-        Err(_) => Err(anyhow!("the book was refused")),
-    }
+    auditor
+        .open(rt.alloc(), text.as_bytes())
+        .map_err(|_| anyhow!("the book was refused"))?;
+    Ok(auditor)
 }
 
 // Takes a line so many times, and answers the nanoseconds.
@@ -52,12 +43,11 @@ fn take_lines(
     rt: &HostRuntime,
     auditor: &mut Auditor,
     line: &str,
-    lines: u32,
+    lines: usize,
 ) -> anyhow::Result<u128> {
-    let text = repeated(rt, line, lines)?;
-    let Ok(mut recording) = Recording::open(text.as_bytes(), 1) else {
-        return Err(anyhow!("a station is 1 to 9,999"));
-    };
+    let text = line.repeat(rt.alloc(), lines)?;
+    let mut recording = Recording::<Text>::open(text.as_bytes(), 1)
+        .map_err(|_| anyhow!("a station is 1 to 9,999"))?;
     let start = Instant::now(rt)?;
     for _ in 0..lines {
         match auditor.take(&mut recording, 4_096).stop {
@@ -72,17 +62,17 @@ fn take_lines(
 // How many entries are open: the sheet page has 78 bytes for each.
 fn entries(rt: &HostRuntime, auditor: &Auditor) -> anyhow::Result<usize> {
     let mut buffer = vec![in rt.alloc(); 0u8; 19_968]?;
-    match auditor.sheet_page(buffer.as_mut_slice()) {
-        Ok(length) => Ok(length / 78),
-        Err(_) => Err(anyhow!("the page has no room")),
-    }
+    let length = auditor
+        .sheet_page(buffer.as_mut_slice())
+        .map_err(|_| anyhow!("the page has no room"))?;
+    Ok(length / 78)
 }
 
 fn measure(
     rt: &HostRuntime,
     rule: &str,
-    rules: u32,
-    opened: u32,
+    rules: usize,
+    opened: usize,
     timed: bool,
 ) -> anyhow::Result<()> {
     let mut auditor = auditor_of(rt, rule, rules)?;
@@ -91,24 +81,21 @@ fn measure(
     println!(rt; "{rules} rules, {entries} entries")?;
     if timed {
         let nanos = take_lines(rt, &mut auditor, IDLE, LINES)?;
-        let per_line = nanos / u128::from(LINES);
+        let per_line = nanos / (LINES as u128);
         let per_entry = per_line / (entries.max(1) as u128);
         println!(rt; "    {per_line} ns per line, {per_entry} ns per entry")?;
     }
     Ok(())
 }
 
-// A text of 8,192 bytes with 16 rules of four nodes each.
+// One of 16 rules of a large book.
+const LARGE_RULE: &str =
+    "each [kind 1, run A] until [kind 9] then (must [kind 3, run A] before [time B if B >= 2 * A + 240] else mustnot [kind 4] before never);\n";
+
+// A text of 8,192 bytes with 16 rules of four nodes each, each filled up with blanks.
 fn large_text(rt: &HostRuntime) -> anyhow::Result<String> {
-    let mut text = String::new(rt.alloc());
-    for _ in 0..16u32 {
-        text.push_str("each [kind 1, run A] until [kind 9] then (must [kind 3, run A] before ")?;
-        text.push_str("[time B if B >= 2 * A + 240] else mustnot [kind 4] before never);\n")?;
-        for _ in 0..376u32 {
-            text.push(' ')?;
-        }
-    }
-    Ok(text)
+    let rule = format!(in rt.alloc(); "{LARGE_RULE:<512}")?;
+    Ok(rule.as_str().repeat(rt.alloc(), 16)?)
 }
 
 // How long reading that book takes, or how large it is.
@@ -133,12 +120,12 @@ fn reading(rt: &HostRuntime, timed: bool) -> anyhow::Result<()> {
 fn run(rt: &HostRuntime) -> anyhow::Result<()> {
     let timed = env::args(rt)?.skip(1).count() > 0;
     println!(rt; "every pattern asks for a kind")?;
-    for (rules, most) in [(1u32, 254u32), (4, 62), (16, 14)] {
+    for (rules, most) in [(1usize, 254usize), (4, 62), (16, 14)] {
         measure(rt, KINDS, rules, 0, timed)?;
         measure(rt, KINDS, rules, most, timed)?;
     }
     println!(rt; "the deadline asks for no kind")?;
-    for (rules, most) in [(1u32, 254u32), (16, 14)] {
+    for (rules, most) in [(1usize, 254usize), (16, 14)] {
         measure(rt, TIMES, rules, 0, timed)?;
         measure(rt, TIMES, rules, most, timed)?;
     }
