@@ -2,17 +2,19 @@
 use crate::books::told;
 use crate::files::bytes_of;
 use crate::recording::opened;
-use crate::turns::{pages_of, push_pages, push_takes, taken_by};
+use crate::turns::{pages_of, push_pages, take_turn, taken_by, takes_for};
 use crate::{Status, misused};
 use auditor::answers::{Refusal, Stop, Taken};
-use feed::faults::Fault;
+use feed::faults::{Fault, FaultNumbers};
 use feed::feeds::Feed;
+use feed::inputs::Text;
 use feed::joins::Joined;
 use runs::calls::{Side, Turn};
 use runs::observers::Unobserved;
 use runs::pair::Pair;
 use runs::pairs::audit_both;
 use runs::racks::{NoFeeds, Rack};
+use std::fmt;
 use std::io::Write;
 
 // The auditors of a run, and its turns with their answers.
@@ -23,48 +25,53 @@ pub struct Run {
 }
 
 // Where a faulty item stands.
-fn place_text(rt: &HostRuntime, fault: Fault) -> anyhow::Result<String> {
-    let numbers = fault.numbers();
-    let station = numbers.station;
-    let item = numbers.item;
-    let field = numbers.field;
-    Ok(match fault.kind.field() {
-        Some(named) => format!(in rt.alloc();
-            ", station {station}, item {item}, field {field} {}",
-            named.name()
-        )?,
-        None => format!(in rt.alloc(); ", station {station}, item {item}, no field")?,
-    })
+#[derive(Clone, Copy)]
+struct Place(Fault);
+
+impl fmt::Display for Place {
+    fn fmt<W: fmt::Write>(&self, f: &mut fmt::Formatter<W>) -> fmt::Result {
+        let FaultNumbers {
+            station,
+            item,
+            field,
+            ..
+        } = self.0.numbers();
+        write!(f, "station {station}, item {item}, ")?;
+        match self.0.kind.field() {
+            Some(named) => write!(f, "field {field} {}", named.name()),
+            None => f.write_str("no field"),
+        }
+    }
 }
 
-// The line that says why the taking was refused.
-fn refusal_text(rt: &HostRuntime, refusal: Refusal, lines: u32) -> anyhow::Result<String> {
-    let number = refusal.numbers().number;
-    let words = refusal.words();
-    let place = match refusal {
-        Refusal::Faulty(fault) => place_text(rt, fault)?,
-        _ => String::new(rt.alloc()),
-    };
-    Ok(format!(in rt.alloc(); "stopped: refused {number} after {lines} lines: {words}{place}")?)
+// Why the taking stopped, and after how many lines.
+#[derive(Clone, Copy)]
+struct Stopped(Taken);
+
+impl fmt::Display for Stopped {
+    fn fmt<W: fmt::Write>(&self, f: &mut fmt::Formatter<W>) -> fmt::Result {
+        let Taken { lines, stop } = self.0;
+        let Stop::Refused(refusal) = stop else {
+            let reason = if let Stop::Dry = stop { "dry" } else { "done" };
+            return write!(f, "stopped: {reason} after {lines} lines");
+        };
+        let number = refusal.numbers().number;
+        let words = refusal.words();
+        write!(f, "stopped: refused {number} after {lines} lines: {words}")?;
+        match refusal {
+            Refusal::Faulty(fault) => write!(f, ", {}", Place(fault)),
+            _ => Ok(()),
+        }
+    }
 }
 
 // Says on standard error why the taking stopped.
 pub fn tell_stop(rt: &HostRuntime, taken: Taken) -> anyhow::Result<Status> {
-    let lines = taken.lines;
-    match taken.stop {
-        Stop::Done => {
-            eprintln!(rt; "stopped: done after {lines} lines")?;
-            Ok(Status::Success)
-        }
-        Stop::Dry => {
-            eprintln!(rt; "stopped: dry after {lines} lines")?;
-            Ok(Status::Success)
-        }
-        Stop::Refused(refusal) => {
-            eprintln!(rt; "{}", refusal_text(rt, refusal, lines)?)?;
-            Ok(Status::Refused)
-        }
-    }
+    eprintln!(rt; "{}", Stopped(taken))?;
+    Ok(match taken.stop {
+        Stop::Refused(_) => Status::Refused,
+        Stop::Done | Stop::Dry => Status::Success,
+    })
 }
 
 // Takes what waits in a feed up to the first refusal, then calls for both pages; none where the book is refused,
@@ -77,7 +84,9 @@ pub fn run_feed<F: Feed + Drop>(
 ) -> anyhow::Result<Option<Run>> {
     let heap = rt.alloc();
     let mut turns = Vec::new(heap);
-    push_takes(&mut turns, heap, Side::First, items)?;
+    for _ in 0..takes_for(Side::First, items) {
+        turns.push(take_turn(heap, Side::First))?;
+    }
     push_pages(&mut turns, heap, Side::First)?;
     let mut rack = Rack {
         first: feed,
@@ -120,7 +129,7 @@ pub fn audit(rt: &HostRuntime, paths: &[String]) -> anyhow::Result<Status> {
         [book, log] => {
             let book = bytes_of(rt, book.as_str())?;
             let text = bytes_of(rt, log.as_str())?;
-            let feed = opened(text.as_slice(), 1)?;
+            let feed = opened::<Text>(text.as_slice(), 1)?;
             audit_feed(rt, book.as_slice(), feed, text.len() / 35)
         }
         [book, left, right] => {
@@ -128,8 +137,9 @@ pub fn audit(rt: &HostRuntime, paths: &[String]) -> anyhow::Result<Status> {
             let left = bytes_of(rt, left.as_str())?;
             let right = bytes_of(rt, right.as_str())?;
             let items = (left.len() / 35).saturating_add(right.len() / 35);
-            let feed = Joined::new(opened(left.as_slice(), 1)?, opened(right.as_slice(), 2)?);
-            audit_feed(rt, book.as_slice(), feed, items)
+            let left_feed = opened::<Text>(left.as_slice(), 1)?;
+            let right_feed = opened::<Text>(right.as_slice(), 2)?;
+            audit_feed(rt, book.as_slice(), Joined::new(left_feed, right_feed), items)
         }
         _ => misused(rt),
     }

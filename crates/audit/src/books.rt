@@ -6,6 +6,7 @@ use anyhow::anyhow;
 use book::book::Book;
 use book::refusals::{Fault, Reason, Refusal};
 use book::whole::read_book;
+use std::alloc::{AllocError, Global};
 
 // The reason in words.
 fn words(reason: Reason) -> &'static str {
@@ -22,26 +23,20 @@ fn words(reason: Reason) -> &'static str {
 
 // Where the line with the place starts: behind the last line feed before it.
 fn line_start(text: &[u8], place: usize) -> usize {
-    let mut start = 0;
-    for (i, byte) in text.iter().enumerate() {
-        if i < place && *byte == b'\n' {
-            start = i.saturating_add(1);
-        }
+    let before = text.get(0..place).unwrap_or(text);
+    match before.iter().rposition(|byte| *byte == b'\n') {
+        Some(at) => at.saturating_add(1),
+        None => 0,
     }
-    start
 }
 
 // The bytes of that line as text; what is no ASCII character that can be shown is a question mark.
-fn line_text(rt: &HostRuntime, text: &[u8], start: usize) -> anyhow::Result<String> {
-    let mut line = String::new(rt.alloc());
-    for byte in text.iter().skip(start) {
-        match *byte {
-            b'\n' => break,
-            b' '..=b'~' => line.push(*byte as char)?,
-            _ => line.push('?')?,
-        }
-    }
-    Ok(line)
+fn line_text(heap: Global, text: &[u8], start: usize) -> Result<String, AllocError> {
+    text.iter()
+        .skip(start)
+        .take_while(|byte| **byte != b'\n')
+        .map(|byte| if matches!(*byte, b' '..=b'~') { *byte as char } else { '?' })
+        .collect(heap)
 }
 
 // The refusal on standard error: number and place, the reason, and the line with a caret under the place.
@@ -51,21 +46,14 @@ fn print_refusal(rt: &HostRuntime, text: &[u8], fault: Fault) -> anyhow::Result<
     eprintln!(rt; "book refused {number} at {place}")?;
     eprintln!(rt; "{}", words(fault.reason))?;
     let start = line_start(text, place);
-    let line = line_text(rt, text, start)?;
-    let mut caret = String::new(rt.alloc());
-    for _ in start..place {
-        caret.push(' ')?;
-    }
-    caret.push('^')?;
-    eprintln!(rt; "{line}")?;
-    eprintln!(rt; "{caret}")?;
+    eprintln!(rt; "{}", line_text(rt.alloc(), text, start)?)?;
+    let indent = place.saturating_sub(start);
+    eprintln!(rt; "{:indent$}^", "")?;
     Ok(())
 }
 
 fn print_book(rt: &HostRuntime, book: &Book) -> anyhow::Result<()> {
-    let mut number = 0u32;
-    for rule in book.rules() {
-        number = number.saturating_add(1);
+    for (number, rule) in (1u32..).zip(book.rules()) {
         println!(rt; "rule {number}")?;
         rt.print(rule_rows(rt.alloc(), rule)?)?;
     }

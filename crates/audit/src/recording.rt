@@ -3,17 +3,16 @@ use crate::files::bytes_of;
 use crate::{Status, misused};
 use anyhow::anyhow;
 use feed::feeds::Feed;
+use feed::inputs::{Encoding, Fitting, Text};
 use feed::joins::Joined;
 use feed::recordings::Recording;
 use report::rows::{fault_row, summary};
 use report::surveys::survey;
 
-// The recording as a feed of the station.
-pub fn opened(text: &[u8], station: u16) -> anyhow::Result<Recording<'_>> {
-    match Recording::open(text, station) {
-        Ok(recording) => Ok(recording),
-        Err(_) => Err(anyhow!("refused 44: a station is numbered 1 to 9,999")),
-    }
+// The recording, in either encoding, as a feed of the station.
+pub fn opened<E: Fitting>(input: &[E::Unit], station: u16) -> anyhow::Result<Recording<'_, E>> {
+    Recording::<E>::open(input, station)
+        .map_err(|e| anyhow!("refused {}: a station is numbered 1 to 9,999", e.number()))
 }
 
 // Prints the report on all that waits in a feed.
@@ -32,14 +31,14 @@ pub fn report_on(rt: &HostRuntime, logs: &[String]) -> anyhow::Result<Status> {
     match logs {
         [log] => {
             let text = bytes_of(rt, log.as_str())?;
-            let mut feed = opened(text.as_slice(), 1)?;
+            let mut feed = opened::<Text>(text.as_slice(), 1)?;
             print_report(rt, &mut feed)
         }
         [left, right] => {
             let left_text = bytes_of(rt, left.as_str())?;
             let right_text = bytes_of(rt, right.as_str())?;
-            let left_feed = opened(left_text.as_slice(), 1)?;
-            let right_feed = opened(right_text.as_slice(), 2)?;
+            let left_feed = opened::<Text>(left_text.as_slice(), 1)?;
+            let right_feed = opened::<Text>(right_text.as_slice(), 2)?;
             print_report(rt, &mut Joined::new(left_feed, right_feed))
         }
         _ => misused(rt),

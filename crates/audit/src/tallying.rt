@@ -6,20 +6,28 @@ use crate::turns::taken_by;
 use crate::{Status, misused};
 use anyhow::anyhow;
 use duty::verdicts::Verdict;
-use roundup::rounding::round_up;
+use feed::inputs::Text;
+use roundup::rounding::{OutsideResults, round_up};
 use roundup::tallies::Tally;
 use runs::calls::Side;
-
-const OUTSIDE: &str = "refused 45: a stretch outside the results";
+use std::fmt;
 
 // A verdict in words.
-fn words(rt: &HostRuntime, verdict: Verdict) -> anyhow::Result<String> {
-    let line = verdict.line();
-    Ok(match verdict {
-        Verdict::Pending => format!(in rt.alloc(); "pending")?,
-        Verdict::Satisfied(_) => format!(in rt.alloc(); "satisfied at line {line}")?,
-        Verdict::Breached(_) => format!(in rt.alloc(); "breached at line {line}")?,
-    })
+#[derive(Clone, Copy)]
+struct Words(Verdict);
+
+impl fmt::Display for Words {
+    fn fmt<W: fmt::Write>(&self, f: &mut fmt::Formatter<W>) -> fmt::Result {
+        match self.0 {
+            Verdict::Pending => f.write_str("pending"),
+            Verdict::Satisfied(line) => write!(f, "satisfied at line {line}"),
+            Verdict::Breached(line) => write!(f, "breached at line {line}"),
+        }
+    }
+}
+
+fn outside(refusal: OutsideResults) -> anyhow::Error {
+    anyhow!("refused {}: a stretch outside the results", refusal.number())
 }
 
 // The tally of the verdicts from `start` on, and their join.
@@ -29,21 +37,16 @@ fn print_tally(
     verdicts: &[Verdict],
     start: usize,
 ) -> anyhow::Result<()> {
-    let mut tallies = Vec::new(rt.alloc());
-    for verdict in verdicts {
-        tallies.push(Tally::of(*verdict))?;
-    }
+    let tallies: Vec<Tally> = verdicts
+        .iter()
+        .map(|verdict| Tally::of(*verdict))
+        .collect(rt.alloc())?;
     let count = verdicts.len().saturating_sub(start);
-    let Ok(tally) = round_up(tallies.as_slice(), start, count) else {
-        return Err(anyhow!("{OUTSIDE}"));
-    };
-    let Ok(verdict) = round_up(verdicts, start, count) else {
-        return Err(anyhow!("{OUTSIDE}"));
-    };
+    let tally = round_up(tallies.as_slice(), start, count).map_err(outside)?;
+    let words = Words(round_up(verdicts, start, count).map_err(outside)?);
     let satisfied = tally.satisfied();
     let breached = tally.breached();
     let pending = tally.pending();
-    let words = words(rt, verdict)?;
     println!(rt;
         "{name}: {satisfied} satisfied, {breached} breached, {pending} pending; the book is {words}"
     )?;
@@ -58,7 +61,7 @@ fn tally_one(
     all: &mut Vec<Verdict>,
 ) -> anyhow::Result<Status> {
     let text = bytes_of(rt, log)?;
-    let feed = opened(text.as_slice(), 1)?;
+    let feed = opened::<Text>(text.as_slice(), 1)?;
     let Some(run) = run_feed(rt, book, feed, text.len() / 35)? else {
         return Err(anyhow!("the book is refused"));
     };
@@ -70,16 +73,18 @@ fn tally_one(
 
 // The tally of each recording, and of all together.
 pub fn tally(rt: &HostRuntime, paths: &[String]) -> anyhow::Result<Status> {
-    let [book, first, rest @ ..] = paths else {
+    let [book, logs @ ..] = paths else {
         return misused(rt);
     };
+    if logs.is_empty() {
+        return misused(rt);
+    }
     let book = bytes_of(rt, book.as_str())?;
     let mut all: Vec<Verdict> = Vec::new(rt.alloc());
-    let mut status = tally_one(rt, book.as_slice(), first.as_str(), &mut all)?;
-    for log in rest {
-        match tally_one(rt, book.as_slice(), log.as_str(), &mut all)? {
-            Status::Success => {}
-            Status::Refused => status = Status::Refused,
+    let mut status = Status::Success;
+    for log in logs {
+        if let Status::Refused = tally_one(rt, book.as_slice(), log.as_str(), &mut all)? {
+            status = Status::Refused;
         }
     }
     print_tally(rt, "all", all.as_slice(), 0)?;

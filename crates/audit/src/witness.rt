@@ -3,13 +3,11 @@
 use crate::books::told;
 use crate::files::bytes_of;
 use crate::recording::opened;
-use crate::turns::{pages_of, push_pages, push_take, taken_by, takes_for};
+use crate::turns::{pages_of, push_pages, take_turn, taken_by, takes_for};
 use crate::{Status, misused};
-use anyhow::anyhow;
 use feed::faults::Item;
 use feed::feeds::Feed;
-use feed::inputs::Packed;
-use feed::successions::Succession;
+use feed::inputs::{Packed, Text};
 use runs::calls::{Side, Turn};
 use runs::counts::TurnCount;
 use runs::pairs::audit_both;
@@ -18,7 +16,7 @@ use std::alloc::AllocError;
 
 // The sound lines of a recording up to its first fault, as packed words.
 fn packed_words(rt: &HostRuntime, text: &[u8]) -> anyhow::Result<Vec<u32>> {
-    let mut feed = opened(text, 2)?;
+    let mut feed = opened::<Text>(text, 2)?;
     let mut words = Vec::new(rt.alloc());
     for _ in 0..text.len() {
         let Some(item) = feed.look() else {
@@ -41,10 +39,10 @@ fn mixed_turns(rt: &HostRuntime, first: usize, second: usize) -> Result<Vec<Turn
     let second_takes = takes_for(Side::Second, second);
     for i in 0..first_takes.max(second_takes) {
         if i < first_takes {
-            push_take(&mut turns, heap, Side::First)?;
+            turns.push(take_turn(heap, Side::First))?;
         }
         if i < second_takes {
-            push_take(&mut turns, heap, Side::Second)?;
+            turns.push(take_turn(heap, Side::Second))?;
         }
     }
     push_pages(&mut turns, heap, Side::First)?;
@@ -80,12 +78,10 @@ pub fn compare_makes(rt: &HostRuntime, paths: &[String]) -> anyhow::Result<Statu
     let left = bytes_of(rt, left.as_str())?;
     let right = bytes_of(rt, right.as_str())?;
     let words = packed_words(rt, right.as_slice())?;
-    let Ok(packed) = Succession::<Packed>::open(words.as_slice(), 2) else {
-        return Err(anyhow!("refused 44: a station is numbered 1 to 9,999"));
-    };
+    let packed = opened::<Packed>(words.as_slice(), 2)?;
     let mut turns = mixed_turns(rt, left.len() / 35, words.len() / 4)?;
     let mut text_rack = Rack {
-        first: opened(left.as_slice(), 1)?,
+        first: opened::<Text>(left.as_slice(), 1)?,
         rest: NoFeeds,
     };
     let mut packed_rack = Rack {

@@ -1,94 +1,79 @@
 // What is printed of the turns of one auditor: their answers in one line, then the buffer of each page call.
 use auditor::answers::{Refusal, Stop, Taken};
 use runs::calls::{Answer, Call, Side, Turn};
+use std::fmt;
 use std::io;
 use std::io::Write;
 
-fn is_of(turn: &Turn, side: Side) -> bool {
-    match (turn.side, side) {
-        (Side::First, Side::First) => true,
-        (Side::Second, Side::Second) => true,
-        _ => false,
-    }
-}
-
-fn is_page(call: Call) -> bool {
-    match call {
-        Call::VerdictPage => true,
-        Call::SheetPage => true,
-        _ => false,
-    }
-}
+// How an answer, or a part of one, is printed.
+#[derive(Clone, Copy)]
+struct Printed<T>(T);
 
 // The number of a refusal, and of a fault also its station, item and field.
-fn print_refusal(rt: &HostRuntime, refusal: Refusal) -> io::Result<()> {
-    let numbers = refusal.numbers();
-    let number = numbers.number;
-    match refusal {
-        Refusal::Faulty(_) => {
-            let station = numbers.station;
-            let item = numbers.item;
-            let field = numbers.field;
-            print!(rt; "{number}:{station}:{item}:{field}")
+impl fmt::Display for Printed<Refusal> {
+    fn fmt<W: fmt::Write>(&self, f: &mut fmt::Formatter<W>) -> fmt::Result {
+        let numbers = self.0.numbers();
+        let number = numbers.number;
+        let station = numbers.station;
+        let item = numbers.item;
+        let field = numbers.field;
+        match self.0 {
+            Refusal::Faulty(_) => write!(f, "{number}:{station}:{item}:{field}"),
+            _ => write!(f, "{number}"),
         }
-        _ => print!(rt; "{number}"),
     }
 }
 
-fn print_taken(rt: &HostRuntime, taken: Taken) -> io::Result<()> {
-    let lines = taken.lines;
-    print!(rt; " took:{lines}:")?;
-    match taken.stop {
-        Stop::Done => print!(rt; "done"),
-        Stop::Dry => print!(rt; "dry"),
-        Stop::Refused(refusal) => print_refusal(rt, refusal),
+impl fmt::Display for Printed<Taken> {
+    fn fmt<W: fmt::Write>(&self, f: &mut fmt::Formatter<W>) -> fmt::Result {
+        let Taken { lines, stop } = self.0;
+        match stop {
+            Stop::Done => write!(f, "took:{lines}:done"),
+            Stop::Dry => write!(f, "took:{lines}:dry"),
+            Stop::Refused(refusal) => write!(f, "took:{lines}:{}", Printed(refusal)),
+        }
     }
 }
 
-fn print_answer(rt: &HostRuntime, answer: Answer) -> io::Result<()> {
-    match answer {
-        Answer::Took(taken) => print_taken(rt, taken),
-        Answer::Skipped(Ok(())) => print!(rt; " skipped"),
-        Answer::Skipped(Err(refusal)) => {
-            print!(rt; " skip:")?;
-            print_refusal(rt, refusal)
-        }
-        Answer::Paged(Ok(length)) => print!(rt; " page:{length}"),
-        Answer::Paged(Err(refusal)) => {
-            print!(rt; " page:")?;
-            print_refusal(rt, refusal)
+impl fmt::Display for Printed<Answer> {
+    fn fmt<W: fmt::Write>(&self, f: &mut fmt::Formatter<W>) -> fmt::Result {
+        match self.0 {
+            Answer::Took(taken) => write!(f, "{}", Printed(taken)),
+            Answer::Skipped(Ok(())) => f.write_str("skipped"),
+            Answer::Skipped(Err(refusal)) => write!(f, "skip:{}", Printed(refusal)),
+            Answer::Paged(Ok(length)) => write!(f, "page:{length}"),
+            Answer::Paged(Err(refusal)) => write!(f, "page:{}", Printed(refusal)),
         }
     }
 }
 
 fn print_answers(rt: &HostRuntime, turns: &[Turn], side: Side) -> io::Result<()> {
-    for turn in turns {
-        if is_of(turn, side) {
-            match turn.answer {
-                Some(answer) => print_answer(rt, answer)?,
-                None => print!(rt; " none")?,
-            }
+    for turn in turns.iter().filter(|turn| turn.side == side) {
+        match turn.answer {
+            Some(answer) => print!(rt; " {}", Printed(answer))?,
+            None => print!(rt; " none")?,
         }
     }
     println!(rt; "")
 }
 
+fn is_page(turn: &Turn) -> bool {
+    matches!(turn.call, Call::VerdictPage | Call::SheetPage)
+}
+
 fn print_buffers(rt: &HostRuntime, turns: &[Turn], side: Side) -> io::Result<()> {
-    for turn in turns {
-        if is_of(turn, side) && is_page(turn.call) {
-            rt.stdout().write_all(turn.buffer.as_slice())?;
-            println!(rt; "")?;
-        }
+    for turn in turns.iter().filter(|turn| turn.side == side && is_page(turn)) {
+        rt.stdout().write_all(turn.buffer.as_slice())?;
+        println!(rt; "")?;
     }
     Ok(())
 }
 
-pub fn print_side(rt: &HostRuntime, turns: &[Turn], side: Side) -> anyhow::Result<()> {
+pub fn print_side(rt: &HostRuntime, turns: &[Turn], side: Side) -> io::Result<()> {
     match side {
         Side::First => print!(rt; "first:")?,
         Side::Second => print!(rt; "second:")?,
     }
     print_answers(rt, turns, side)?;
-    print_buffers(rt, turns, side)?;
-    Ok(())
+    print_buffers(rt, turns, side)
 }

@@ -7,10 +7,10 @@ mod answers;
 mod turns;
 
 use answers::print_side;
-use anyhow::anyhow;
+use anyhow::{Context, anyhow};
 use book::refusals::{Fault, Refusal};
 use feed::cursors::InputFeed;
-use feed::inputs::Text;
+use feed::inputs::{OpenRefusal, Text};
 use feed::joins::Joined;
 use feed::recordings::Recording;
 use runs::calls::{Side, Turn};
@@ -21,6 +21,10 @@ use std::alloc::Global;
 use std::io::Read;
 use turns::turns_of;
 
+fn refused(_refusal: OpenRefusal) -> anyhow::Error {
+    anyhow!("a feed was refused")
+}
+
 // Makes the turns on the log: the first auditor draws on a text feed, the second on a joined feed.
 fn audit(
     heap: Global,
@@ -29,13 +33,9 @@ fn audit(
     turns: &mut [Turn],
 ) -> anyhow::Result<Option<Refusal>> {
     let log = log.as_bytes();
-    let (Ok(text), Ok(left), Ok(right)) = (
-        InputFeed::<Text>::open(log, 1, 1),
-        Recording::open(log, 2),
-        Recording::open(b"", 3),
-    ) else {
-        return Err(anyhow!("a feed was refused"));
-    };
+    let text = InputFeed::<Text>::open(log, 1, 1).map_err(refused)?;
+    let left = Recording::<Text>::open(log, 2).map_err(refused)?;
+    let right = Recording::<Text>::open(b"", 3).map_err(refused)?;
     let mut first = Rack {
         first: text,
         rest: NoFeeds,
@@ -57,37 +57,33 @@ fn audit(
 
 // Prints what a case answers.
 fn print_case(rt: &HostRuntime, case: &str) -> anyhow::Result<()> {
-    let Some((book, rest)) = case.split_once("--\n") else {
-        return Err(anyhow!("a case has no log"));
-    };
-    let Some((log, calls)) = rest.split_once("--\n") else {
-        return Err(anyhow!("a case has no turns"));
-    };
+    let (book, rest) = case.split_once("--\n").context("a case has no log")?;
+    let (log, calls) = rest.split_once("--\n").context("a case has no turns")?;
     let heap = rt.alloc();
     let mut turns = turns_of(heap, calls)?;
     match audit(heap, book, log, turns.as_mut_slice())? {
         None => {
             print_side(rt, turns.as_slice(), Side::First)?;
-            print_side(rt, turns.as_slice(), Side::Second)
+            print_side(rt, turns.as_slice(), Side::Second)?;
         }
         Some(Refusal::Faulty(Fault { reason, place })) => {
             println!(rt; "refused {} at {}", reason.number(), place)?;
-            Ok(())
         }
-        Some(Refusal::NoMemory) => Err(anyhow!("no memory")),
+        Some(Refusal::NoMemory) => return Err(anyhow!("no memory")),
     }
+    Ok(())
 }
 
 fn run(rt: &HostRuntime) -> anyhow::Result<()> {
     let mut input = String::new(rt.alloc());
     rt.stdin().read_to_string(&mut input)?;
-    let mut number = 0u32;
-    for case in input.as_str().split("==\n") {
-        if !case.is_empty() {
-            number = number.saturating_add(1);
-            println!(rt; "case {number}")?;
-            print_case(rt, case)?;
-        }
+    let cases = input
+        .as_str()
+        .split("==\n")
+        .filter(|case| !case.is_empty());
+    for (number, case) in (1u32..).zip(cases) {
+        println!(rt; "case {number}")?;
+        print_case(rt, case)?;
     }
     Ok(())
 }

@@ -1,5 +1,5 @@
 // The turns of a case, read from its lines.
-use anyhow::anyhow;
+use anyhow::{Context, anyhow};
 use runs::calls::{Call, Side, Turn};
 use std::alloc::Global;
 use std::str::Split;
@@ -14,10 +14,7 @@ struct Asked {
 }
 
 fn word<'a>(words: &mut Split<'a, char>) -> anyhow::Result<&'a str> {
-    match words.next() {
-        Some(word) => Ok(word),
-        None => Err(anyhow!("a turn has too few words")),
-    }
+    words.next().context("a turn has too few words")
 }
 
 fn side_of(name: &str) -> anyhow::Result<Side> {
@@ -32,31 +29,18 @@ fn side_of(name: &str) -> anyhow::Result<Side> {
 fn read_call(words: &mut Split<char>) -> anyhow::Result<Asked> {
     let name = word(words)?;
     let number = word(words)?.parse::<usize>()?;
-    match name {
+    let (call, room) = match name {
         "take" => {
             let count = word(words)?.parse::<u32>()?;
-            Ok(Asked {
-                call: Call::Take {
-                    feed: number,
-                    count,
-                },
-                room: 0,
-            })
+            let feed = number;
+            (Call::Take { feed, count }, 0)
         }
-        "skip" => Ok(Asked {
-            call: Call::Skip { feed: number },
-            room: 0,
-        }),
-        "verdicts" => Ok(Asked {
-            call: Call::VerdictPage,
-            room: number,
-        }),
-        "sheet" => Ok(Asked {
-            call: Call::SheetPage,
-            room: number,
-        }),
-        _ => Err(anyhow!("a turn has no such call")),
-    }
+        "skip" => (Call::Skip { feed: number }, 0),
+        "verdicts" => (Call::VerdictPage, number),
+        "sheet" => (Call::SheetPage, number),
+        _ => return Err(anyhow!("a turn has no such call")),
+    };
+    Ok(Asked { call, room })
 }
 
 fn turn_of(heap: Global, line: &str) -> anyhow::Result<Turn> {
@@ -72,9 +56,8 @@ fn turn_of(heap: Global, line: &str) -> anyhow::Result<Turn> {
 }
 
 pub fn turns_of(heap: Global, lines: &str) -> anyhow::Result<Vec<Turn>> {
-    let mut turns = Vec::new(heap);
-    for line in lines.lines() {
-        turns.push(turn_of(heap, line)?)?;
-    }
-    Ok(turns)
+    lines
+        .lines()
+        .map(|line| -> anyhow::Result<Turn> { turn_of(heap, line) })
+        .try_collect(heap)
 }

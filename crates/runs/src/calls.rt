@@ -67,7 +67,7 @@ impl Answer {
 }
 
 // One of two auditors.
-#[derive(Clone, Copy)]
+#[derive(Clone, Copy, Debug, PartialEq, Eq)]
 pub enum Side {
     First,
     Second,
