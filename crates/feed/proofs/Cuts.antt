@@ -2,7 +2,7 @@
 use Rattle.std.proofs.Common.{◌≡◌, ℕ, zero, suc, ◌+◌, ◌-◌, ◌<◌, ◌≤◌, min, Bool, true, false, eqb, List, [], ◌∷◌, length, take, drop, Some, MatchBool, Result, sym, refl, ap, ◌∙◌, subst, ⊎_elim, add-one, arith, length-drop, take-append-drop, length-take-le, take_all, eqb-true}
 use native.Mathlib.Nat.{div-eq_of_lt, add-div_right}
 use borrow.Author.Tests.{eqb-false}
-use Rattle.std.proofs.lemmas.List.{drop_all}
+use Rattle.std.proofs.lemmas.List.{take_min, drop_min, drop_all}
 use Rattle.std.proofs.lemmas.Bool.{cases_lt, false≢true}
 use Rattle.feed.specs.Inputs.{cut_in, cut, Pieces, none, remainder, piece, piece_count, item_of, counted, numbered, items_of}
 use Rattle.feed.specs.Waiting.{first, later, any}
@@ -42,32 +42,16 @@ module _ {X : Type 0} (reads : List X → Result Line FaultKind) (w station n : 
   unfolding items_of
   items-some p h = ap (numbered reads station n) (cut-first w xs p h)
 
--- a piece may be cut at the end of the input, where that comes first
-module _ {X : Type 0} (w : ℕ) (xs : List X) where
-  pub take_within : take (min w (length xs)) xs ≡ take w xs
-  take_within =
-      ⊎_elim
-      (λ h. ap (λ k. take k xs) (let e : min w (length xs) ≡ w = omega arith in e))
-      (λ h. take_all _ xs (omega arith) ∙ sym (take_all w xs h))
-      (cases_lt w (length xs))
-
-  pub drop-within : drop (min w (length xs)) xs ≡ drop w xs
-  drop-within =
-      ⊎_elim
-      (λ h. ap (λ k. drop k xs) (let e : min w (length xs) ≡ w = omega arith in e))
-      (λ h. drop_all _ xs (omega arith) ∙ sym (drop_all w xs h))
-      (cases_lt w (length xs))
-
 -- what a look shows and a drop leaves of the items of an input
 module _ {X : Type 0} (reads : List X → Result Line FaultKind) (w station n : ℕ) (xs : List X) where
   pub shown-first : 0 < w → 0 < length xs → (m : ℕ) (x : Item) → m ≡ min w (length xs) → x ≡ item_of station n (reads (take m xs)) → Some x ≡ first (items_of reads w station n xs)
   shown-first p h m x e read =
-      let same : x ≡ item_of station n (reads (take w xs)) = read ∙ ap (λ ys. item_of station n (reads ys)) (ap (λ k. take k xs) e ∙ take_within w xs) in
+      let same : x ≡ item_of station n (reads (take w xs)) = read ∙ ap (λ ys. item_of station n (reads ys)) (ap (λ k. take k xs) e ∙ take_min w xs) in
       ap Some same ∙ sym (ap first (items-some reads w station n xs p h))
 
   pub left-some : 0 < w → 0 < length xs → (m : ℕ) (after : List X) → m ≡ min w (length xs) → after ≡ drop m xs → items_of reads w station (counted (n + 1)) after ≡ later (items_of reads w station n xs)
   left-some p h m after e back =
-      ap (items_of reads w station (counted (n + 1))) (back ∙ ap (λ k. drop k xs) e ∙ drop-within w xs) ∙ sym (ap later (items-some reads w station n xs p h))
+      ap (items_of reads w station (counted (n + 1))) (back ∙ ap (λ k. drop k xs) e ∙ drop_min w xs) ∙ sym (ap later (items-some reads w station n xs p h))
 
   -- whether an input is empty tells whether it has items
   pub dry : 0 < w → (b : Bool) → b ≡ eqb (length xs) 0 → MatchBool b (items_of reads w station n xs ≡ []) (any (items_of reads w station n xs) ≡ true)

@@ -17,72 +17,45 @@ holds : {X : Type 0} (test : Bool) (go : T test → X) (x y : X) → test ≡ tr
 holds true go x y e same = same tt
 holds false go x y e same = absurd (false≢true e)
 
-module _ (f : Field) (n : ℕ) (go : n ≤ limit f → Result Line Field) where
-  pub over : limit f < n → limited f n go ≡ Err f
-  over h = fails (leb n (limit f)) (λ t. go (lit≤ t)) (Err f) (lt-leb n (limit f) h)
+over : (f : Field) (n : ℕ) (go : n ≤ limit f → Result Line Field) → limit f < n → limited f n go ≡ Err f
+unfolding limited
+over f n go h = fails (leb n (limit f)) (λ t. go (lit≤ t)) (Err f) (lt-leb n (limit f) h)
 
-  pub under : (h : n ≤ limit f) → limited f n go ≡ go h
-  under h = holds (leb n (limit f)) (λ t. go (lit≤ t)) (Err f) (go h) (le-leb n (limit f) h) (λ t. ap go (le_prop (lit≤ t) h))
+under : (f : Field) (n : ℕ) (go : n ≤ limit f → Result Line Field) (h : n ≤ limit f) → limited f n go ≡ go h
+unfolding limited
+under f n go h = holds (leb n (limit f)) (λ t. go (lit≤ t)) (Err f) (go h) (le-leb n (limit f) h) (λ t. ap go (le_prop (lit≤ t) h))
 
--- what is left of making a line once the fields before it are within their limits
 module _ (t k m c u r : ℕ) where
-  abbrev whole : t ≤ limit Time → k ≤ limit Kind → m ≤ limit Machine → c ≤ limit Crew → u ≤ limit Run → r ≤ limit Reading → Result Line Field
-  whole ht hk hm hc hu hr =
-      Ok (record { time = t; kind = k; machine = m; crew = c; run = u; reading = r; timed = ht; kinded = hk; machined = hm; crewed = hc; ran = hu; read = hr })
-
-  abbrev from_reading : t ≤ limit Time → k ≤ limit Kind → m ≤ limit Machine → c ≤ limit Crew → u ≤ limit Run → Result Line Field
-  from_reading ht hk hm hc hu = limited Reading r (whole ht hk hm hc hu)
-
-  abbrev from_run : t ≤ limit Time → k ≤ limit Kind → m ≤ limit Machine → c ≤ limit Crew → Result Line Field
-  from_run ht hk hm hc = limited Run u (λ h. from_reading ht hk hm hc h)
-
-  abbrev from_crew : t ≤ limit Time → k ≤ limit Kind → m ≤ limit Machine → Result Line Field
-  from_crew ht hk hm = limited Crew c (λ h. from_run ht hk hm h)
-
-  abbrev from_machine : t ≤ limit Time → k ≤ limit Kind → Result Line Field
-  from_machine ht hk = limited Machine m (λ h. from_crew ht hk h)
-
-  abbrev from_kind : t ≤ limit Time → Result Line Field
-  from_kind ht = limited Kind k (λ h. from_machine ht h)
-
-  to_kind : (ht : t ≤ limit Time) → line_of t k m c u r ≡ from_kind ht
+  pub over_time : limit Time < t → line_of t k m c u r ≡ Err Time
   unfolding line_of
-  to_kind ht = under Time t from_kind ht
+  over_time h = over Time t _ h
 
-  to_machine : (ht : t ≤ limit Time) (hk : k ≤ limit Kind) → line_of t k m c u r ≡ from_machine ht hk
-  to_machine ht hk = to_kind ht ∙ under Kind k (from_machine ht) hk
-
-  to_crew : (ht : t ≤ limit Time) (hk : k ≤ limit Kind) (hm : m ≤ limit Machine) → line_of t k m c u r ≡ from_crew ht hk hm
-  to_crew ht hk hm = to_machine ht hk ∙ under Machine m (from_crew ht hk) hm
-
-  to_run : (ht : t ≤ limit Time) (hk : k ≤ limit Kind) (hm : m ≤ limit Machine) (hc : c ≤ limit Crew) → line_of t k m c u r ≡ from_run ht hk hm hc
-  to_run ht hk hm hc = to_crew ht hk hm ∙ under Crew c (from_run ht hk hm) hc
-
-  to_reading : (ht : t ≤ limit Time) (hk : k ≤ limit Kind) (hm : m ≤ limit Machine) (hc : c ≤ limit Crew) (hu : u ≤ limit Run) → line_of t k m c u r ≡ from_reading ht hk hm hc hu
-  to_reading ht hk hm hc hu = to_run ht hk hm hc ∙ under Run u (from_reading ht hk hm hc) hu
-
-  pub over-time : limit Time < t → Err Time ≡ line_of t k m c u r
+  pub over_kind : t ≤ limit Time → limit Kind < k → line_of t k m c u r ≡ Err Kind
   unfolding line_of
-  over-time h = sym (over Time t from_kind h)
+  over_kind ht h = under Time t _ ht ∙ over Kind k _ h
 
-  pub over-kind : t ≤ limit Time → limit Kind < k → Err Kind ≡ line_of t k m c u r
-  over-kind ht h = sym (to_kind ht ∙ over Kind k (from_machine ht) h)
+  pub over_machine : t ≤ limit Time → k ≤ limit Kind → limit Machine < m → line_of t k m c u r ≡ Err Machine
+  unfolding line_of
+  over_machine ht hk h = under Time t _ ht ∙ under Kind k _ hk ∙ over Machine m _ h
 
-  pub over-machine : t ≤ limit Time → k ≤ limit Kind → limit Machine < m → Err Machine ≡ line_of t k m c u r
-  over-machine ht hk h = sym (to_machine ht hk ∙ over Machine m (from_crew ht hk) h)
+  pub over_crew : t ≤ limit Time → k ≤ limit Kind → m ≤ limit Machine → limit Crew < c → line_of t k m c u r ≡ Err Crew
+  unfolding line_of
+  over_crew ht hk hm h = under Time t _ ht ∙ under Kind k _ hk ∙ under Machine m _ hm ∙ over Crew c _ h
 
-  pub over-crew : t ≤ limit Time → k ≤ limit Kind → m ≤ limit Machine → limit Crew < c → Err Crew ≡ line_of t k m c u r
-  over-crew ht hk hm h = sym (to_crew ht hk hm ∙ over Crew c (from_run ht hk hm) h)
+  pub over_run : t ≤ limit Time → k ≤ limit Kind → m ≤ limit Machine → c ≤ limit Crew → limit Run < u → line_of t k m c u r ≡ Err Run
+  unfolding line_of
+  over_run ht hk hm hc h = under Time t _ ht ∙ under Kind k _ hk ∙ under Machine m _ hm ∙ under Crew c _ hc ∙ over Run u _ h
 
-  pub over-run : t ≤ limit Time → k ≤ limit Kind → m ≤ limit Machine → c ≤ limit Crew → limit Run < u → Err Run ≡ line_of t k m c u r
-  over-run ht hk hm hc h = sym (to_run ht hk hm hc ∙ over Run u (from_reading ht hk hm hc) h)
-
-  pub over-reading : t ≤ limit Time → k ≤ limit Kind → m ≤ limit Machine → c ≤ limit Crew → u ≤ limit Run → limit Reading < r → Err Reading ≡ line_of t k m c u r
-  over-reading ht hk hm hc hu h = sym (to_reading ht hk hm hc hu ∙ over Reading r (whole ht hk hm hc hu) h)
-
-  pub all_within : (ht : t ≤ limit Time) (hk : k ≤ limit Kind) (hm : m ≤ limit Machine) (hc : c ≤ limit Crew) (hu : u ≤ limit Run) (hr : r ≤ limit Reading) → whole ht hk hm hc hu hr ≡ line_of t k m c u r
-  all_within ht hk hm hc hu hr = sym (to_reading ht hk hm hc hu ∙ under Reading r (whole ht hk hm hc hu) hr)
+  pub over_reading : t ≤ limit Time → k ≤ limit Kind → m ≤ limit Machine → c ≤ limit Crew → u ≤ limit Run → limit Reading < r → line_of t k m c u r ≡ Err Reading
+  unfolding line_of
+  over_reading ht hk hm hc hu h =
+      under Time t _ ht ∙ under Kind k _ hk ∙ under Machine m _ hm ∙ under Crew c _ hc ∙ under Run u _ hu ∙ over Reading r _ h
 
 -- a line is that of its values
 pub line_of_lem : (l : Line) → Ok l ≡ line_of l.time l.kind l.machine l.crew l.run l.reading
-line_of_lem l = all_within l.time l.kind l.machine l.crew l.run l.reading l.timed l.kinded l.machined l.crewed l.ran l.read
+unfolding line_of
+line_of_lem l =
+    sym (under Time l.time _ l.timed ∙ under Kind l.kind _ l.kinded ∙ under Machine l.machine _ l.machined ∙ under Crew l.crew _ l.crewed ∙ under Run l.run _ l.ran ∙ under Reading l.reading _ l.read)
+
+pub line_of_these : (l : Line) (t k m c u r : ℕ) → l.time ≡ t → l.kind ≡ k → l.machine ≡ m → l.crew ≡ c → l.run ≡ u → l.reading ≡ r → Ok l ≡ line_of t k m c u r
+line_of_these l t k m c u r et ek em ec eu er = rw (← et, ← ek, ← em, ← ec, ← eu, ← er) (line_of_lem l)

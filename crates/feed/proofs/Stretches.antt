@@ -6,7 +6,6 @@ use Rattle.std.proofs.lemmas.List.{drop_all, drop-append-le}
 use Rattle.std.proofs.lemmas.Bool.{cases_lt}
 use Rattle.feed.specs.Inputs.{counted, items_of}
 use Rattle.feed.specs.Recorded.{followed}
-use Rattle.feed.specs.Text.{text_line}
 use Rattle.feed.specs.declared.faults.FaultKind.{FaultKind}
 use Rattle.feed.specs.declared.faults.Item.{Item}
 use Rattle.feed.specs.declared.lines.Line.{Line}
@@ -55,19 +54,3 @@ module _ {X : Type 0} (reads : List X → Result Line FaultKind) (w k station n 
       let none : drop m xs ≡ [] = drop_all m xs (omega arith) in
       rw (begins, front, back, all, none, ← items-none reads w station next [] refl) (followed-none _))
       (cases_lt (k * w) (length xs))
-
--- one stretch of at most 1,872 items, and the text behind it
-pub next-stretch : (station n m : ℕ) (xs a b : List ℕ) → n ≡ counted n → m ≡ min (length xs) 65520 → a ≡ take m xs → b ≡ drop m xs → followed (items_of text_line 35 station n a) (items_of text_line 35 station (counted (n + m / 35)) b) ≡ items_of text_line 35 station n xs
-next-stretch station n m xs a b f e front back =
-    ⊎_elim
-    (λ (long : 65520 < length xs).
-    let m-is : m ≡ 65520 = omega arith in
-    let full : length (take 65520 xs) ≡ 65520 = length-take-le 65520 xs (omega arith) in
-    let split = items-append text_line 35 station (omega arith) 1872 n (take 65520 xs) (drop 65520 xs) f full in
-    let some : 0 < length (items_of text_line 35 station n (take 65520 xs)) = some-items text_line 35 station n (take 65520 xs) (omega arith) (omega arith) in
-    rw (front, back, m-is, followed-some _ (items_of text_line 35 station (counted (n + 1872)) (drop 65520 xs)) some) (sym split ∙ ap (items_of text_line 35 station n) (take-append-drop 65520 xs)))
-    (λ (short : length xs ≤ 65520).
-    let all : take m xs ≡ xs = take_all m xs (omega arith) in
-    let none : drop m xs ≡ [] = drop_all m xs (omega arith) in
-    rw (front, back, all, none, ← items-none text_line 35 station (counted (n + m / 35)) [] refl) (followed-none _))
-    (cases_lt 65520 (length xs))

@@ -6,6 +6,5 @@ pub mod Opened
 pub mod Opening
 pub mod Packed
 pub mod Recorded
-pub mod Succeeded
 pub mod Text
 pub mod Waiting

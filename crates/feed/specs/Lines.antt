@@ -15,22 +15,13 @@ value l Crew = l.crew
 value l Run = l.run
 value l Reading = l.reading
 
--- six values, in the order of the fields, each within its limit
-pub record Within (t k m c u r : ℕ) : Type 0 where
-  pub time : t ≤ limit Time
-  pub kind : k ≤ limit Kind
-  pub machine : m ≤ limit Machine
-  pub crew : c ≤ limit Crew
-  pub run : u ≤ limit Run
-  pub reading : r ≤ limit Reading
-
 -- goes on where the test holds, with that it does, and ends with x where it fails
 abbrev pub where_holds : {X : Type 0} → (test : Bool) → (T test → X) → X → X
 where_holds true go x = go tt
 where_holds false go x = x
 
 -- goes on where n is within the limit of field f, and names f where it is not
-abbrev pub limited : (f : Field) (n : ℕ) → (n ≤ limit f → Result Line Field) → Result Line Field
+unfoldable pub limited : (f : Field) (n : ℕ) → (n ≤ limit f → Result Line Field) → Result Line Field
 limited f n go = where_holds (nat_le n (limit f)) (λ h. go (lit≤ h)) (Err f)
 
 -- the line with these values, or the lowest field whose value is over its limit

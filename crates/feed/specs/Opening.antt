@@ -1,5 +1,5 @@
 -- Opening a feed over an input. Assumes nothing.
-use Rattle.std.specs.Prelude.{ℕ, Bool, cond, ◌||◌, Some, None, Option, nat_lt}
+use Rattle.std.specs.Prelude.{ℕ, Bool, if◌then◌else◌, ◌||◌, Some, None, Option, nat_lt}
 use Rattle.feed.specs.declared.inputs.OpenRefusal.{OpenRefusal}
 use Rattle.feed.specs.declared.inputs.OpenRefusal.TheVariants.{Station, FirstItem, InputLength}
 
@@ -11,7 +11,9 @@ outside low high n = nat_lt n low || nat_lt high n
 -- first item (1 to 9,990,000), then the length of the input (at most `most` units)
 abbrev pub refusal : (most station first len : ℕ) → Option OpenRefusal
 refusal most station first len =
-    cond (outside 1 9999 station) (Some Station) (cond (outside 1 9990000 first) (Some FirstItem) (cond (nat_lt most len) (Some InputLength) None))
+    if outside 1 9999 station then Some Station else
+    if outside 1 9990000 first then Some FirstItem else
+    if nat_lt most len then Some InputLength else None
 
 -- each is refused by one number
 abbrev pub open_number : OpenRefusal → ℕ

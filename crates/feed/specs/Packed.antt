@@ -1,5 +1,5 @@
 -- The packed form of a line: which line or which fault the words of an item are. Assumes nothing.
-use Rattle.std.specs.Prelude.{ℕ, ◌+◌, ◌*◌, ◌/◌, ◌%◌, cond, List, [], ◌∷◌, length, Err, Result, nat_lt, slice_index}
+use Rattle.std.specs.Prelude.{ℕ, ◌+◌, ◌*◌, ◌/◌, ◌%◌, if◌then◌else◌, List, [], ◌∷◌, length, Err, Result, nat_lt, slice_index}
 use Rattle.feed.specs.Faults.{naming}
 use Rattle.feed.specs.Lines.{line_of}
 use Rattle.feed.specs.declared.faults.FaultKind.{FaultKind}
@@ -20,7 +20,8 @@ packed_fields a b c d = naming OverLimit (line_of a (upper b) (lower b) (upper c
 -- a packed item: first its length is tested, then its fields; a fault names the lowest over its limit
 abbrev pub packed_line : List ℕ → Result Line FaultKind
 packed_line item =
-    cond (nat_lt (length item) 4) (Err FewWords) (packed_fields (slice_index item 0) (slice_index item 1) (slice_index item 2) (slice_index item 3))
+    if nat_lt (length item) 4 then Err FewWords else
+    packed_fields (slice_index item 0) (slice_index item 1) (slice_index item 2) (slice_index item 3)
 
 -- the word with these upper and lower 16 bits
 abbrev pub halves : ℕ → ℕ → ℕ

@@ -1,5 +1,5 @@
 -- The text form of a line: which line or which fault the bytes of an item are. Assumes nothing.
-use Rattle.std.specs.Prelude.{ℕ, ◌+◌, ◌-◌, ◌*◌, Bool, true, false, cond, ◌&&◌, List, [], ◌∷◌, length, take, drop, Some, None, Ok, Err, Option, Result, ◌==◌, nat_le, nat_lt, slice_index}
+use Rattle.std.specs.Prelude.{ℕ, ◌+◌, ◌-◌, ◌*◌, Bool, true, false, if◌then◌else◌, ◌&&◌, List, [], ◌∷◌, length, take, drop, Some, None, Ok, Err, Option, Result, ◌==◌, nat_le, nat_lt, slice_index}
 use Rattle.feed.specs.Faults.{naming}
 use Rattle.feed.specs.Lines.{line_of}
 use Rattle.feed.specs.declared.faults.FaultKind.{FaultKind}
@@ -33,23 +33,23 @@ column f bytes = take (width f) (drop (start f) bytes)
 -- what follows the blanks in front (byte 32)
 abbrev pub after_blanks : List ℕ → List ℕ
 after_blanks [] = []
-after_blanks (b ∷ bs) = cond (b == 32) (after_blanks bs) (b ∷ bs)
+after_blanks (b ∷ bs) = if b == 32 then after_blanks bs else b ∷ bs
 
 -- the number whose decimal digits are those of n and then the bytes, `0` to `9` (48 to 57)
 abbrev pub digits_from : ℕ → List ℕ → FieldText
 digits_from n [] = Number n
-digits_from n (b ∷ bs) = cond (nat_le 48 b && nat_le b 57) (digits_from (n * 10 + (b - 48)) bs) Malformed
+digits_from n (b ∷ bs) = if nat_le 48 b && nat_le b 57 then digits_from (n * 10 + (b - 48)) bs else Malformed
 
 -- a decimal number, with no leading zero but in 0 itself; nothing at all is a blank field
 abbrev pub numeral : List ℕ → FieldText
 numeral [] = Blank
 numeral (b ∷ []) = digits_from 0 (b ∷ [])
-numeral (b ∷ c ∷ bs) = cond (b == 48) Malformed (digits_from 0 (b ∷ c ∷ bs))
+numeral (b ∷ c ∷ bs) = if b == 48 then Malformed else digits_from 0 (b ∷ c ∷ bs)
 
 -- a field is one blank or more, and then a number up to its right end
 abbrev pub field_text : List ℕ → FieldText
 field_text [] = Malformed
-field_text (b ∷ bs) = cond (b == 32) (numeral (after_blanks bs)) Malformed
+field_text (b ∷ bs) = if b == 32 then numeral (after_blanks bs) else Malformed
 
 -- time and kind must have a number; any other field may be blank
 abbrev pub may_be_blank : Field → Bool
@@ -63,7 +63,7 @@ may_be_blank Reading = true
 -- a field's value, where it has one; a field that is left blank counts as 0
 abbrev pub settled : Field → FieldText → Option ℕ
 settled f (Number n) = Some n
-settled f Blank = cond (may_be_blank f) (Some 0) None
+settled f Blank = if may_be_blank f then Some 0 else None
 settled f Malformed = None
 
 -- a field's value in an item, or the fault that names the field
@@ -92,4 +92,5 @@ text_fields item =
 -- an item of text: first its length is tested, then its last byte, then its fields
 abbrev pub text_line : List ℕ → Result Line FaultKind
 text_line item =
-    cond (nat_lt (length item) 35) (Err faults.ShortText) (cond (slice_index item 34 == 10) (text_fields item) (Err faults.NoLineFeed))
+    if nat_lt (length item) 35 then Err faults.ShortText else
+    if slice_index item 34 == 10 then text_fields item else Err faults.NoLineFeed

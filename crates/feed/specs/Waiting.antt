@@ -1,5 +1,5 @@
 -- Waiting lists: what a look shows, what a drop leaves, and the merge of two. Assumes nothing.
-use Rattle.std.specs.Prelude.{◌≡◌, Bool, true, false, cond, List, [], ◌∷◌, Some, None, Option, nat_le}
+use Rattle.std.specs.Prelude.{◌≡◌, Bool, true, false, if◌then◌else◌, List, [], ◌∷◌, Some, None, Option, nat_le}
 use Rattle.feed.specs.declared.faults.Item.{Item}
 use Rattle.feed.specs.declared.faults.Item.TheVariants.{Sound, Faulty}
 
@@ -26,7 +26,7 @@ before (Sound a) (Sound b) = nat_le a.time b.time
 -- x and then what rest makes of the right list, behind those items of the right list that come before x
 abbrev pub placed : Item → (List Item → List Item) → List Item → List Item
 placed x rest [] = x ∷ rest []
-placed x rest (y ∷ ys) = cond (before x y) (x ∷ rest (y ∷ ys)) (y ∷ placed x rest ys)
+placed x rest (y ∷ ys) = if before x y then x ∷ rest (y ∷ ys) else y ∷ placed x rest ys
 
 -- two lists as one, by their heads; after one list the other follows unchanged
 abbrev pub merged : List Item → List Item → List Item
@@ -47,8 +47,8 @@ pub data Interleaved : List Item → List Item → List Item → Type 0 where
 
 -- the merge of two lists goes by their heads, loses nothing, and leaves what follows one list as it is
 pub record Merge (xs ys : List Item) : Type 0 where
-  pub heads : first (merged xs ys) ≡ cond (leads (first xs) (first ys)) (first xs) (first ys)
-  pub rest : later (merged xs ys) ≡ cond (leads (first xs) (first ys)) (merged (later xs) ys) (merged xs (later ys))
+  pub heads : first (merged xs ys) ≡ (if leads (first xs) (first ys) then first xs else first ys)
+  pub rest : later (merged xs ys) ≡ (if leads (first xs) (first ys) then merged (later xs) ys else merged xs (later ys))
   pub both : Interleaved xs ys (merged xs ys)
   pub left_alone : merged xs [] ≡ xs
   pub right_alone : merged [] ys ≡ ys

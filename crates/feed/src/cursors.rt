@@ -6,7 +6,7 @@ ghost use Rattle.feed.specs.Opened.{Opened, waiting_in};
 
 use crate::faults::{Fault, FaultKind, Item};
 use crate::feeds::Feed;
-use crate::inputs::{Encoding, OpenRefusal};
+use crate::inputs::{Encoding, OpenRefusal, check_station};
 use crate::lines::Line;
 
 // The input that is left, whose items belong to the station and are numbered from `next`.
@@ -34,9 +34,9 @@ fn item_of(station: u16, item: u64, read: Result<Line, FaultKind>) -> Item
 impl<'a, E: Encoding> InputFeed<'a, E> {
     // A feed over the input, with no limit on it.
     pub(crate) fn begin(input: &'a [E::Unit], station: u16, first: u64) -> InputFeed<'a, E>
-        ensures items { waiting_in E.Encoding.reads E.Encoding.width result ≡ items_of E.Encoding.reads E.Encoding.width station first input.now }
-        ensures pieces { Pieces E.Encoding.width input.now (cut E.Encoding.width input.now) }
-        ensures count { length (waiting_in E.Encoding.reads E.Encoding.width result) ≡ piece_count E.Encoding.width (length input.now) }
+        ensures items { waiting_in E.reads E.width result ≡ items_of E.reads E.width station first input.now }
+        ensures pieces { Pieces E.width input.now (cut E.width input.now) }
+        ensures count { length (waiting_in E.reads E.width result) ≡ piece_count E.width (length input.now) }
     {
         InputFeed {
             rest: input,
@@ -46,16 +46,17 @@ impl<'a, E: Encoding> InputFeed<'a, E> {
     }
 
     // Whether nothing waits.
+    #[tactic(auto, using(crate::proofs::Cuts::dry))]
     pub(crate) fn is_dry(&self) -> bool
-        ensures { MatchBool result (waiting_in E.Encoding.reads E.Encoding.width self.now ≡ []) (any (waiting_in E.Encoding.reads E.Encoding.width self.now) ≡ true) }
+        ensures { MatchBool result (waiting_in E.reads E.width self.now ≡ []) (any (waiting_in E.reads E.width self.now) ≡ true) }
     {
         self.rest.is_empty()
     }
 
     // The item at the front of an input that is not empty.
     fn front(&self) -> Item
-        requires { any (waiting_in E.Encoding.reads E.Encoding.width self.now) ≡ true }
-        ensures { Some result ≡ first (waiting_in E.Encoding.reads E.Encoding.width self.now) }
+        requires { any (waiting_in E.reads E.width self.now) ≡ true }
+        ensures { Some result ≡ first (waiting_in E.reads E.width self.now) }
     {
         let n = E::width().min(self.rest.len());
         let read = E::read(&self.rest[0..n]);
@@ -64,8 +65,8 @@ impl<'a, E: Encoding> InputFeed<'a, E> {
 
     // The feed behind its first item.
     fn behind(&self) -> InputFeed<'a, E>
-        requires { any (waiting_in E.Encoding.reads E.Encoding.width self.now) ≡ true }
-        ensures { waiting_in E.Encoding.reads E.Encoding.width result ≡ later (waiting_in E.Encoding.reads E.Encoding.width self.now) }
+        requires { any (waiting_in E.reads E.width self.now) ≡ true }
+        ensures { waiting_in E.reads E.width result ≡ later (waiting_in E.reads E.width self.now) }
     {
         let n = E::width().min(self.rest.len());
         InputFeed {
@@ -81,12 +82,10 @@ impl<'a, E: Encoding> InputFeed<'a, E> {
         station: u16,
         first: u64,
     ) -> Result<InputFeed<'a, E>, OpenRefusal>
-        ensures { Opened E.Encoding.reads E.Encoding.width E.Encoding.most station first input.now result }
+        ensures { Opened E.reads E.width E.most station first input.now result }
     {
-        if station < 1 || station > 9_999 {
-            return Err(OpenRefusal::Station);
-        }
-        if first < 1 || first > 9_990_000 {
+        check_station(station)?;
+        if !(1..=9_990_000).contains(&first) {
             return Err(OpenRefusal::FirstItem);
         }
         if input.len() > E::most() {
@@ -97,7 +96,7 @@ impl<'a, E: Encoding> InputFeed<'a, E> {
 }
 
 impl<E: Encoding> Feed for InputFeed<'_, E> {
-    ghost waiting = { λ s. waiting_in E.Encoding.reads E.Encoding.width s };
+    ghost waiting = { λ s. waiting_in E.reads E.width s };
 
     fn look(&mut self) -> Option<Item> {
         if self.is_dry() {

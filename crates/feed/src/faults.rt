@@ -1,9 +1,10 @@
 // What a feed holds: sound lines, and faults.
-ghost use Rattle.std.specs.Prelude.{◌≡◌};
+ghost use Rattle.std.specs.Prelude.{◌≡◌, Some};
 ghost use Rattle.feed.specs.Faults.{fault_number, fault_field, fault_numbers, fault_words};
 
 use crate::fields::Field;
 use crate::lines::Line;
+use std::fmt;
 
 // Why an item is no sound line, with the field where it has one.
 #[derive(Clone, Copy)]
@@ -30,6 +31,7 @@ pub enum Item {
 }
 
 // A fault as it is reported: its number, its station, its item, and its field, 0 where it has none.
+// (Those who are told of faults know kinds and fields by these numbers.)
 #[derive(Clone, Copy)]
 pub struct FaultNumbers {
     pub number: u8,
@@ -56,11 +58,8 @@ impl FaultKind {
         ensures { result ≡ fault_field self }
     {
         match self {
-            FaultKind::Malformed(field) => Some(field),
-            FaultKind::OverLimit(field) => Some(field),
-            FaultKind::ShortText => None,
-            FaultKind::NoLineFeed => None,
-            FaultKind::FewWords => None,
+            FaultKind::Malformed(field) | FaultKind::OverLimit(field) => Some(field),
+            FaultKind::ShortText | FaultKind::NoLineFeed | FaultKind::FewWords => None,
         }
     }
 
@@ -78,20 +77,24 @@ impl FaultKind {
     }
 }
 
+impl fmt::Display for FaultKind {
+    ghost output = { λ kind. Some (fault_words kind) };
+
+    fn fmt<W: fmt::Write>(&self, f: &mut fmt::Formatter<W>) -> fmt::Result {
+        f.write_str(self.words())
+    }
+}
+
 impl Fault {
     // The fault by its numbers.
     pub fn numbers(self) -> FaultNumbers
         ensures { result ≡ fault_numbers self }
     {
-        let field = match self.kind.field() {
-            Some(field) => field.number(),
-            None => 0,
-        };
         FaultNumbers {
             number: self.kind.number(),
             station: self.station,
             item: self.item,
-            field,
+            field: self.kind.field().map_or(0, Field::number),
         }
     }
 }

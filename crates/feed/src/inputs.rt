@@ -1,6 +1,6 @@
 // Feeds over the caller's bytes or words.
-ghost use Rattle.std.specs.Prelude.{◌≡◌, ℕ, ◌<◌, ◌≤◌, List, Result};
-ghost use Rattle.feed.specs.Opening.{open_number};
+ghost use Rattle.std.specs.Prelude.{◌≡◌, ℕ, ◌<◌, ◌≤◌, true, false, List, Result, MatchResult};
+ghost use Rattle.feed.specs.Opening.{outside, open_number};
 ghost use Rattle.feed.specs.Text.{text_line};
 ghost use Rattle.feed.specs.Packed.{packed_line};
 ghost use Rattle.feed.specs.declared.faults.FaultKind.{FaultKind};
@@ -36,7 +36,7 @@ pub trait Encoding {
 
 // An encoding of which the most that one feed is given lets in one item at least.
 pub trait Fitting: Encoding {
-    ghost fits: { Self.Encoding.width ≤ Self.Encoding.most };
+    ghost fits: { Self.width ≤ Self.most };
 }
 
 #[derive(Drop)]
@@ -110,6 +110,7 @@ pub enum OpenRefusal {
 }
 
 impl OpenRefusal {
+    // The number by which the refusal is told, which is one for all three.
     pub fn number(self) -> u8
         ensures { result ≡ open_number self }
     {
@@ -119,4 +120,14 @@ impl OpenRefusal {
             OpenRefusal::InputLength => 44,
         }
     }
+}
+
+// A station has a number of 1 to 9,999.
+pub(crate) fn check_station(station: u16) -> Result<(), OpenRefusal>
+    ensures { MatchResult result (λ _. outside 1 9999 station ≡ false) (λ e. (outside 1 9999 station ≡ true) × (e ≡ OpenRefusal.Station)) }
+{
+    if !(1..=9_999).contains(&station) {
+        return Err(OpenRefusal::Station);
+    }
+    Ok(())
 }

@@ -9,12 +9,10 @@ use crate::feeds::Feed;
 fn comes_first(left: Item, right: Item) -> bool
     ensures { result ≡ before left right }
 {
-    match left {
-        Item::Faulty(_) => true,
-        Item::Sound(a) => match right {
-            Item::Faulty(_) => false,
-            Item::Sound(b) => a.time <= b.time,
-        },
+    match (left, right) {
+        (Item::Faulty(_), _) => true,
+        (Item::Sound(_), Item::Faulty(_)) => false,
+        (Item::Sound(a), Item::Sound(b)) => a.time <= b.time,
     }
 }
 
@@ -22,13 +20,11 @@ fn comes_first(left: Item, right: Item) -> bool
 fn left_next(left: Option<Item>, right: Option<Item>) -> bool
     ensures { result ≡ leads left right }
 {
-    let Some(a) = left else {
-        return false;
-    };
-    let Some(b) = right else {
-        return true;
-    };
-    comes_first(a, b)
+    match (left, right) {
+        (None, _) => false,
+        (Some(_), None) => true,
+        (Some(a), Some(b)) => comes_first(a, b),
+    }
 }
 
 // A feed on any two feeds, which it holds by value.
@@ -42,14 +38,14 @@ impl<L: Feed, R: Feed> Joined<L, R> {
     // The two feeds as one, whose list is the merge of theirs.
     pub fn new(left: L, right: R) -> Joined<L, R>
         ensures held { (result.left ≡ left) × (result.right ≡ right) }
-        ensures merge { Merge (L.Feed.waiting left) (R.Feed.waiting right) }
+        ensures merge { Merge (L.waiting left) (R.waiting right) }
     {
         Joined { left, right }
     }
 }
 
 impl<L: Feed, R: Feed> Feed for Joined<L, R> {
-    ghost waiting = { λ s. merged (L.Feed.waiting s.left) (R.Feed.waiting s.right) };
+    ghost waiting = { λ s. merged (L.waiting s.left) (R.waiting s.right) };
 
     fn look(&mut self) -> Option<Item> {
         let left = self.left.look();

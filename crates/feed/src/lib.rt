@@ -11,5 +11,4 @@ pub mod lines;
 mod makes;
 pub mod packed;
 pub mod recordings;
-pub mod successions;
 pub mod text;

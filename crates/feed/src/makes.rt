@@ -1,45 +1,26 @@
 // Lines made of values, and read by field.
-ghost use Rattle.std.specs.Prelude.{◌≡◌, ◌≤◌, Err, MatchOption};
+ghost use Rattle.std.specs.Prelude.{◌≡◌, ◌<◌, ◌≤◌, MatchResult};
 ghost use Rattle.feed.specs.Limits.{limit};
-ghost use Rattle.feed.specs.Lines.{value, Within, line_of};
+ghost use Rattle.feed.specs.Lines.{value, line_of};
 
 use crate::fields::Field;
 use crate::lines::Line;
 
-// The lowest field whose value is over its limit, if there is one.
-fn lowest_over(
-    time: u32,
-    kind: u32,
-    machine: u32,
-    crew: u32,
-    run: u32,
-    reading: u32,
-) -> Option<Field>
-    ensures { MatchOption result (Within time kind machine crew run reading) (λ f. Err f ≡ line_of time kind machine crew run reading) }
-{
-    if time > Field::Time.limit() {
-        return Some(Field::Time);
+impl Field {
+    // The value, where it is within the field's limit, or the field whose limit it is over.
+    fn within(self, value: u32) -> Result<u32, Field>
+        ensures { MatchResult result (λ n. (n ≡ value) × (n ≤ limit self)) (λ f. (f ≡ self) × (limit self < value)) }
+    {
+        if value > self.limit() {
+            return Err(self);
+        }
+        Ok(value)
     }
-    if kind > Field::Kind.limit() {
-        return Some(Field::Kind);
-    }
-    if machine > Field::Machine.limit() {
-        return Some(Field::Machine);
-    }
-    if crew > Field::Crew.limit() {
-        return Some(Field::Crew);
-    }
-    if run > Field::Run.limit() {
-        return Some(Field::Run);
-    }
-    if reading > Field::Reading.limit() {
-        return Some(Field::Reading);
-    }
-    None
 }
 
 impl Line {
     // The line with these values, or the lowest field whose value is over its limit.
+    #[tactic(auto, using(crate::proofs::Limited::over_time, crate::proofs::Limited::over_kind, crate::proofs::Limited::over_machine, crate::proofs::Limited::over_crew, crate::proofs::Limited::over_run, crate::proofs::Limited::over_reading))]
     pub fn new(
         time: u32,
         kind: u32,
@@ -50,16 +31,13 @@ impl Line {
     ) -> Result<Line, Field>
         ensures { result ≡ line_of time kind machine crew run reading }
     {
-        if let Some(field) = lowest_over(time, kind, machine, crew, run, reading) {
-            return Err(field);
-        }
         Ok(Line {
-            time,
-            kind: kind as u16,
-            machine: machine as u16,
-            crew: crew as u16,
-            run: run as u16,
-            reading,
+            time: Field::Time.within(time)?,
+            kind: Field::Kind.within(kind)? as u16,
+            machine: Field::Machine.within(machine)? as u16,
+            crew: Field::Crew.within(crew)? as u16,
+            run: Field::Run.within(run)? as u16,
+            reading: Field::Reading.within(reading)?,
         })
     }
 

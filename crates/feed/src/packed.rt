@@ -30,27 +30,23 @@ fn word_of(high: u16, low: u16) -> u32
 pub fn read_packed(item: &[u32]) -> Result<Line, FaultKind>
     ensures { result ≡ packed_line item.now }
 {
-    if item.len() < 4 {
+    let &[time, kind_machine, crew_run, reading, ..] = item else {
         return Err(FaultKind::FewWords);
-    }
-    let kind_machine = item[1];
-    let crew_run = item[2];
-    let line = Line::new(
-        item[0],
+    };
+    Line::new(
+        time,
         upper_half(kind_machine),
         lower_half(kind_machine),
         upper_half(crew_run),
         lower_half(crew_run),
-        item[3],
-    );
-    match line {
-        Ok(line) => Ok(line),
-        Err(field) => Err(FaultKind::OverLimit(field)),
-    }
+        reading,
+    )
+    .map_err(FaultKind::OverLimit)
 }
 
 impl Line {
     // The line in packed form, which reads as this line again.
+    #[tactic(auto, using(crate::proofs::Written::read_back))]
     pub fn words(&self) -> [u32; 4]
         ensures words { result ≡ packed_words self.now }
         ensures back { packed_line result ≡ Ok self.now }

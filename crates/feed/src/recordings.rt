@@ -1,48 +1,50 @@
-// A recording of any size, as a feed that goes through successive text feeds.
-ghost use Rattle.std.specs.Prelude.{◌≡◌};
+// A recording of any size and any encoding, as a feed that goes through successive feeds over it.
+ghost use Rattle.std.specs.Prelude.{◌≡◌, ◌*◌, ◌/◌};
 ghost use Rattle.feed.specs.Inputs.{items_of};
 ghost use Rattle.feed.specs.Recorded.{waiting_of, RecordingOpened};
-ghost use Rattle.feed.specs.Text.{text_line};
 
 use crate::cursors::InputFeed;
 use crate::faults::Item;
 use crate::feeds::Feed;
-use crate::inputs::{OpenRefusal, Text};
+use crate::inputs::{Encoding, Fitting, OpenRefusal, check_station};
 
-// The text feed that is drawn on now, and the text behind it, whose items are numbered from `next`.
+// The feed that is drawn on now, and the input behind it, whose items are numbered from `next`.
 #[derive(Drop)]
-pub struct Recording<'a> {
-    current: InputFeed<'a, Text>,
-    after: &'a [u8],
+pub struct Recording<'a, E: Fitting> {
+    current: InputFeed<'a, E>,
+    after: &'a [E::Unit],
     station: u16,
     next: u64,
 }
 
-// The bytes of one text feed: 1,872 items, as many as its limit lets in.
-const STRETCH: usize = 65_520;
+// The units of one feed: as many whole items as its limit lets in.
+fn stretch<E: Fitting>() -> usize
+    ensures { result ≡ E.most / E.width * E.width }
+{
+    let width = E::width();
+    E::most() / width * width
+}
 
-impl<'a> Recording<'a> {
-    // Begins the next text feed.
+impl<'a, E: Fitting> Recording<'a, E> {
+    // Begins the next feed.
     fn refill(&mut self)
-        ensures { waiting_of self.new ≡ items_of text_line 35 self.old.station self.old.next self.old.after.now }
+        ensures { waiting_of E.reads E.width self.new ≡ items_of E.reads E.width self.old.station self.old.next self.old.after.now }
     {
-        let n = self.after.len().min(STRETCH);
-        let (text, after) = self.after.split_at(n);
-        self.current = InputFeed::begin(text, self.station, self.next);
+        let n = self.after.len().min(stretch::<E>());
+        let (input, after) = self.after.split_at(n);
+        self.current = InputFeed::begin(input, self.station, self.next);
         self.after = after;
-        self.next = self.next.saturating_add((n / 35) as u64);
+        self.next = self.next.saturating_add((n / E::width()) as u64);
     }
 
-    // A feed over the whole text, whose items belong to the station and are numbered from 1.
-    pub fn open(text: &'a [u8], station: u16) -> Result<Recording<'a>, OpenRefusal>
-        ensures { RecordingOpened station text.now result }
+    // A feed over the whole input, whose items belong to the station and are numbered from 1.
+    pub fn open(input: &'a [E::Unit], station: u16) -> Result<Recording<'a, E>, OpenRefusal>
+        ensures { RecordingOpened E.reads E.width station input.now result }
     {
-        if station < 1 || station > 9_999 {
-            return Err(OpenRefusal::Station);
-        }
+        check_station(station)?;
         let mut recording = Recording {
             current: InputFeed::begin(&[], station, 1),
-            after: text,
+            after: input,
             station,
             next: 1,
         };
@@ -51,8 +53,8 @@ impl<'a> Recording<'a> {
     }
 }
 
-impl Feed for Recording<'_> {
-    ghost waiting = { waiting_of };
+impl<E: Fitting> Feed for Recording<'_, E> {
+    ghost waiting = { λ s. waiting_of E.reads E.width s };
 
     fn look(&mut self) -> Option<Item> {
         self.current.look()

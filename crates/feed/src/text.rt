@@ -1,12 +1,14 @@
 // The text form of a line: 35 bytes, six fields in columns and a line feed.
-ghost use Rattle.std.specs.Prelude.{◌≡◌, ◌<◌, ◌≤◌, length, drop};
+ghost use Rattle.std.specs.Prelude.{◌≡◌, ◌<◌, ◌≤◌, length, ◌==◌};
+ghost use Rattle.std.specs.List.{prefix_len};
 ghost use Rattle.feed.specs.Text.{start, width, after_blanks, digits_from, numeral, field_text, column, settled, value_in, text_fields, text_line};
 
 use crate::faults::FaultKind;
 use crate::fields::Field;
 use crate::lines::Line;
 
-// What the columns of a field hold.
+// What the columns of a field hold. As a Result of an Option the two ways to hold no number would be
+// told apart by nesting alone.
 #[derive(Clone, Copy)]
 pub enum FieldText {
     Blank,
@@ -44,14 +46,18 @@ fn width_of(field: Field) -> usize
 
 // How many blanks stand in front.
 fn count_blanks(bytes: &[u8]) -> usize
+    ensures count { result ≡ prefix_len (λ b. b == 32) bytes.now }
     ensures within { result ≤ length bytes.now }
-    ensures rest { drop result bytes.now ≡ after_blanks bytes.now }
 {
-    let mut n = 0;
-    while n < bytes.len() && bytes[n] == b' ' {
-        n += 1;
-    }
-    n
+    bytes.iter().take_while(|b| **b == b' ').count()
+}
+
+// What follows the blanks in front.
+fn after_blanks(bytes: &[u8]) -> &[u8]
+    ensures rest { result.now ≡ after_blanks bytes.now }
+    ensures within { length result.now ≤ length bytes.now }
+{
+    &bytes[count_blanks(bytes)..]
 }
 
 // The number that the digits write.
@@ -61,7 +67,7 @@ fn read_digits(digits: &[u8]) -> FieldText
 {
     let mut n: u32 = 0;
     for digit in digits {
-        if *digit < b'0' || *digit > b'9' {
+        if !digit.is_ascii_digit() {
             return FieldText::Malformed;
         }
         n = n * 10 + u32::from(*digit - b'0');
@@ -86,11 +92,10 @@ fn read_field(bytes: &[u8]) -> FieldText
     requires { length bytes.now ≤ 8 }
     ensures { result ≡ field_text bytes.now }
 {
-    let blanks = count_blanks(bytes);
-    if blanks == 0 {
-        return FieldText::Malformed;
+    match bytes {
+        [b' ', rest @ ..] => read_numeral(after_blanks(rest)),
+        _ => FieldText::Malformed,
     }
-    read_numeral(&bytes[blanks..])
 }
 
 // What a field's columns hold in an item of text.
@@ -111,28 +116,23 @@ fn settle(field: Field, text: FieldText) -> Option<u32>
         FieldText::Number(n) => Some(n),
         FieldText::Malformed => None,
         FieldText::Blank => match field {
-            Field::Time => None,
-            Field::Kind => None,
-            Field::Machine => Some(0),
-            Field::Crew => Some(0),
-            Field::Run => Some(0),
-            Field::Reading => Some(0),
+            Field::Time | Field::Kind => None,
+            Field::Machine | Field::Crew | Field::Run | Field::Reading => Some(0),
         },
     }
 }
 
 // A field's value in an item of text, or the fault that names it.
+#[tactic(auto, unfolding(crate::specs::Text::value_in))]
 fn value_in(item: &[u8], field: Field) -> Result<u32, FaultKind>
     requires { 35 ≤ length item.now }
     ensures { result ≡ value_in field item.now }
 {
-    match settle(field, columns(item, field)) {
-        Some(n) => Ok(n),
-        None => Err(FaultKind::Malformed(field)),
-    }
+    settle(field, columns(item, field)).ok_or(FaultKind::Malformed(field))
 }
 
 // The line of the six fields, or the lowest malformed one.
+#[tactic(auto, unfolding(crate::specs::Text::text_fields))]
 fn read_fields(item: &[u8]) -> Result<Line, FaultKind>
     requires { 35 ≤ length item.now }
     ensures { result ≡ text_fields item.now }
@@ -143,10 +143,7 @@ fn read_fields(item: &[u8]) -> Result<Line, FaultKind>
     let crew = value_in(item, Field::Crew)?;
     let run = value_in(item, Field::Run)?;
     let reading = value_in(item, Field::Reading)?;
-    match Line::new(time, kind, machine, crew, run, reading) {
-        Ok(line) => Ok(line),
-        Err(field) => Err(FaultKind::Malformed(field)),
-    }
+    Line::new(time, kind, machine, crew, run, reading).map_err(FaultKind::Malformed)
 }
 
 // The line that an item of text is, or its fault. Of a longer slice the first 35 bytes are read.

@@ -1,14 +1,12 @@
-use Rattle.std.proofs.Common.{length, refl, arith}
+use Rattle.std.proofs.Common.{length, arith}
 use Rattle.feed.proofs.Cuts.{cut-pieces, items-count}
 use Rattle.feed.proofs.cursors.InputFeed.begin.Goals as goal
 
-pub returns : goal.returns
-returns g c =
-    let e = g.E.Encoding in
-    let some = g.met.E.Encoding.some in
+pub returns-clause-pieces : goal.returns-clause-pieces
+returns-clause-pieces g c =
     let input = c.args.input.now in
-    record {
-      items = refl;
-      pieces = cut-pieces e.width some (length input) input (omega arith);
-      count = items-count e.reads e.width c.args.station c.args.first input some;
-    }
+    cut-pieces g.E.Encoding.width g.met.E.Encoding.some (length input) input (omega arith)
+
+pub returns-clause-count : goal.returns-clause-count
+returns-clause-count g c =
+    items-count g.E.Encoding.reads g.E.Encoding.width c.args.station c.args.first c.args.input.now g.met.E.Encoding.some

@@ -1,6 +1,5 @@
-use Rattle.std.proofs.Common.{refl}
 use Rattle.feed.proofs.Merges.{merge}
 use Rattle.feed.proofs.joins.Joined.new.Goals as goal
 
-pub returns : goal.returns
-returns g c = record { held = (refl, refl); merge = merge _ _ }
+pub returns-clause-merge : goal.returns-clause-merge
+returns-clause-merge g c = merge _ _

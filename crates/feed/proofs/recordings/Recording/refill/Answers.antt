@@ -1,16 +1,21 @@
-use Rattle.std.proofs.Common.{◌≡◌, ap, ◌∙◌, rules}
-use Rattle.feed.specs.Inputs.{counted, items_of}
-use Rattle.feed.specs.Recorded.{followed}
-use Rattle.feed.specs.Text.{text_line}
-use Rattle.feed.proofs.Stretches.{next-stretch}
+use Rattle.std.proofs.Common.{◌≡◌, ◌+◌, ◌/◌, ◌<◌, min, length, ap, ◌∙◌, arith, rules}
+use Rattle.std.proofs.lemmas.Nat.{le-div}
+use Rattle.feed.specs.Inputs.{counted}
+use Rattle.feed.proofs.Stretches.{next_in_turn}
 use Rattle.feed.proofs.recordings.Recording.refill.Goals as goal
 
 pub returns : goal.returns
-returns c =
+returns g c =
+    let e = g.E.Encoding in
+    let law = g.met.E.Encoding in
     let self = c.args.self.now in
+    let xs = self.after.now in
     let m = c.min-n.result in
-    let rest = c.split_at.result.1.now in
     let told : self.next ≡ counted self.next = search rules in
-    ap (λ xs. followed xs (items_of text_line 35 self.station c.saturating_add-self.result rest)) c.begin-self.ensures.items
-    ∙ ap (λ k. followed (items_of text_line 35 self.station self.next c.split_at.result.0.now) (items_of text_line 35 self.station k rest)) c.saturating_add-self.ensures
-    ∙ next-stretch self.station self.next m self.after.now c.split_at.result.0.now rest told c.min-n.ensures c.split_at.ensures.front c.split_at.ensures.back
+    let some : 0 < e.most / e.width = le-div 1 e.most e.width law.some (omega (arith, g.met.E.Fitting.fits)) in
+    next_in_turn e.reads e.width (e.most / e.width) self.station self.next xs law.some some told m _ _ _ _
+    (c.min-n.ensures ∙ ap (min (length xs)) c.stretch.ensures)
+    c.split_at.ensures.front
+    c.split_at.ensures.back
+    c.begin-self.ensures.items
+    (c.saturating_add-self.ensures ∙ ap (λ w. counted (self.next + m / w)) c.width.ensures)
