@@ -139,7 +139,12 @@ pub fn audit(rt: &HostRuntime, paths: &[String]) -> anyhow::Result<Status> {
             let items = (left.len() / 35).saturating_add(right.len() / 35);
             let left_feed = opened::<Text>(left.as_slice(), 1)?;
             let right_feed = opened::<Text>(right.as_slice(), 2)?;
-            audit_feed(rt, book.as_slice(), Joined::new(left_feed, right_feed), items)
+            audit_feed(
+                rt,
+                book.as_slice(),
+                Joined::new(left_feed, right_feed),
+                items,
+            )
         }
         _ => misused(rt),
     }

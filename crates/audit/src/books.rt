@@ -35,7 +35,11 @@ fn line_text(heap: Global, text: &[u8], start: usize) -> Result<String, AllocErr
     text.iter()
         .skip(start)
         .take_while(|byte| **byte != b'\n')
-        .map(|byte| if matches!(*byte, b' '..=b'~') { *byte as char } else { '?' })
+        .map(|byte| if matches!(*byte, b' '..=b'~') {
+            *byte as char
+        } else {
+            '?'
+        })
         .collect(heap)
 }
 

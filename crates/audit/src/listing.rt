@@ -199,7 +199,14 @@ fn push_rows(rows: &mut String, rule: &Rule, spot: Spot) -> Result<u32, AllocErr
         }
         Rule::Bracket(_, first, second) => {
             let after = push_rows(rows, first, inner)?;
-            push_rows(rows, second, Spot { node: after, ..inner })
+            push_rows(
+                rows,
+                second,
+                Spot {
+                    node: after,
+                    ..inner
+                },
+            )
         }
     }
 }

@@ -11,8 +11,10 @@ use report::surveys::survey;
 
 // The recording, in either encoding, as a feed of the station.
 pub fn opened<E: Fitting>(input: &[E::Unit], station: u16) -> anyhow::Result<Recording<'_, E>> {
-    Recording::<E>::open(input, station)
-        .map_err(|e| anyhow!("refused {}: a station is numbered 1 to 9,999", e.number()))
+    Recording::<E>::open(input, station).map_err(|e| anyhow!(
+        "refused {}: a station is numbered 1 to 9,999",
+        e.number()
+    ))
 }
 
 // Prints the report on all that waits in a feed.

@@ -27,7 +27,10 @@ impl fmt::Display for Words {
 }
 
 fn outside(refusal: OutsideResults) -> anyhow::Error {
-    anyhow!("refused {}: a stretch outside the results", refusal.number())
+    anyhow!(
+        "refused {}: a stretch outside the results",
+        refusal.number()
+    )
 }
 
 // The tally of the verdicts from `start` on, and their join.

@@ -1,9 +1,8 @@
 // What is printed of the turns of one auditor: their answers in one line, then the buffer of each page call.
 use auditor::answers::{Refusal, Stop, Taken};
 use runs::calls::{Answer, Call, Side, Turn};
-use std::fmt;
-use std::io;
 use std::io::Write;
+use std::{fmt, io};
 
 // How an answer, or a part of one, is printed.
 #[derive(Clone, Copy)]
@@ -62,7 +61,10 @@ fn is_page(turn: &Turn) -> bool {
 }
 
 fn print_buffers(rt: &HostRuntime, turns: &[Turn], side: Side) -> io::Result<()> {
-    for turn in turns.iter().filter(|turn| turn.side == side && is_page(turn)) {
+    for turn in turns
+        .iter()
+        .filter(|turn| turn.side == side && is_page(turn))
+    {
         rt.stdout().write_all(turn.buffer.as_slice())?;
         println!(rt; "")?;
     }

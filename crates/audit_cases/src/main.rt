@@ -77,10 +77,7 @@ fn print_case(rt: &HostRuntime, case: &str) -> anyhow::Result<()> {
 fn run(rt: &HostRuntime) -> anyhow::Result<()> {
     let mut input = String::new(rt.alloc());
     rt.stdin().read_to_string(&mut input)?;
-    let cases = input
-        .as_str()
-        .split("==\n")
-        .filter(|case| !case.is_empty());
+    let cases = input.as_str().split("==\n").filter(|case| !case.is_empty());
     for (number, case) in (1u32..).zip(cases) {
         println!(rt; "case {number}")?;
         print_case(rt, case)?;

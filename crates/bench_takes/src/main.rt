@@ -46,8 +46,9 @@ fn take_lines(
     lines: usize,
 ) -> anyhow::Result<u128> {
     let text = line.repeat(rt.alloc(), lines)?;
-    let mut recording = Recording::<Text>::open(text.as_bytes(), 1)
-        .map_err(|_| anyhow!("a station is 1 to 9,999"))?;
+    let mut recording = Recording::<Text>::open(text.as_bytes(), 1).map_err(|_| anyhow!(
+        "a station is 1 to 9,999"
+    ))?;
     let start = Instant::now(rt)?;
     for _ in 0..lines {
         match auditor.take(&mut recording, 4_096).stop {
