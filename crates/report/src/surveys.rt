@@ -7,7 +7,7 @@ use std::alloc::{AllocError, Global};
 
 // Drains the feed into a report, or stops where there is no memory for a fault.
 pub fn survey<F: Feed>(heap: Global, feed: &mut F) -> Result<Report, AllocError>
-    ensures { Surveyed (F.Feed.waiting feed.old) (F.Feed.waiting feed.new) result }
+    ensures { Surveyed (F.waiting feed.old) (F.waiting feed.new) result }
 {
     let mut report = Report::new(heap);
     while let Some(item) = feed.look() {

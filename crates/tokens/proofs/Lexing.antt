@@ -1,27 +1,41 @@
 -- What the loops and the steps of the cursor keep.
-use Rattle.std.proofs.Common.{◌≡◌, ℕ, zero, suc, ◌+◌, ◌-◌, ◌<◌, ◌≤◌, Bool, true, false, cond, ◌&&◌, eqb, leb, List, [], ◌∷◌, length, get_or, take, drop, codes, Option, sym, refl, ap, ◌∙◌, add-zero, add-one, arith, length-drop, drop_of_length-le, length-take-le, drop-cons, drop-drop, eqb-true, leb-false, leb-true}
+use Rattle.std.proofs.Common.{◌≡◌, ℕ, zero, suc, ◌+◌, ◌-◌, ◌<◌, ◌≤◌, Bool, true, false, cond, ◌&&◌, leb, List, [], ◌∷◌, length, get_or, take, drop, codes, Option, sym, refl, ap, ◌∙◌, ⊎_elim, add-zero, add-one, arith, length-drop, drop_of_length-le, length-take-le, drop-cons, drop-drop, eqb-true, leb-false, leb-true}
+use Rattle.std.proofs.lemmas.Bool.{cond-true, cond-false, cases_Bool, and_parts, false≢true}
+use Rattle.std.proofs.lemmas.List.{get_or-drop}
+use Rattle.std.proofs.lemmas.List.Sums.{prefix_len-le-length, prefix_len-drop_yes, prefix_len_stops}
+use Rattle.std.specs.List.{prefix_len}
 use Rattle.tokens.specs.declared.token.Symbol.{Symbol}
-use Rattle.tokens.specs.Text.{Stretch, word, number, end, Placed, placed, is_blank, is_letter, is_digit, is_angle, run_len, extent, stretch_on, stretches_from, next_is, same, symbol_of, is_end}
-use Rattle.tokens.specs.declared.token.Token.{Token}
-use Rattle.tokens.specs.declared.token.Token.TheVariants.{Word, Number, Mark, Stray, End}
-use Rattle.tokens.specs.Tokens.{SymbolAt, symbol_stretch, symbol_span, tokens_at, AtEnd, stretch_of, token_len}
+use Rattle.tokens.specs.Text.{Stretch, word, number, end, Placed, placed, is_blank, is_letter, is_digit, is_angle, extent, stretch_on, stretches_from, next_is, same, symbol_of, is_end}
+use Rattle.tokens.specs.Tokens.{SymbolAt, symbol_stretch, symbol_span, tokens_at, AtEnd}
 
 pub cut : (bs : List ℕ) (n : ℕ) → n < length bs → drop n bs ≡ get_or bs n 0 ∷ drop (n + 1) bs
 cut bs n h = drop-cons bs n 0 h ∙ ap (λ k. get_or bs n 0 ∷ drop k bs) (sym (add-one n))
 
-pub run_more : (f : ℕ → Bool) (bs : List ℕ) (n : ℕ) → n < length bs → f (get_or bs n 0) ≡ true → run_len f (drop n bs) ≡ 1 + run_len f (drop (n + 1) bs)
-run_more f bs n h e = ap (run_len f) (cut bs n h) ∙ ap (λ b. cond b (1 + run_len f (drop (n + 1) bs)) 0) e
+-- blanks are passed over
+blanks : (xs : List ℕ) (p : ℕ) → stretches_from p 0 xs ≡ stretches_from (p + prefix_len is_blank xs) 0 (drop (prefix_len is_blank xs) xs)
+blanks [] p = ap (λ q. stretches_from q 0 []) (sym (add-zero p))
+blanks (b ∷ xs) p =
+    ⊎_elim
+    (λ (blank : is_blank b ≡ true).
+    let n = prefix_len is_blank xs in
+    let one : 1 + n ≡ suc n = omega arith in
+    let more : prefix_len is_blank (b ∷ xs) ≡ suc n = cond-true _ _ _ blank ∙ one in
+    let on : p + 1 + n ≡ p + suc n = omega arith in
+    cond-true _ _ _ blank ∙ blanks xs (p + 1) ∙ ap (λ q. stretches_from q 0 (drop n xs)) on ∙ ap (λ m. stretches_from (p + m) 0 (drop m (b ∷ xs))) (sym more))
+    (λ (dark : is_blank b ≡ false).
+    let none : prefix_len is_blank (b ∷ xs) ≡ 0 = cond-false _ _ _ dark in
+    ap (λ q. stretches_from q 0 (b ∷ xs)) (sym (add-zero p)) ∙ ap (λ m. stretches_from (p + m) 0 (drop m (b ∷ xs))) (sym none))
+    (cases_Bool (is_blank b))
 
-pub run-stop : (f : ℕ → Bool) (bs : List ℕ) (n : ℕ) → n < length bs → f (get_or bs n 0) ≡ false → run_len f (drop n bs) ≡ 0
-run-stop f bs n h e = ap (run_len f) (cut bs n h) ∙ ap (λ b. cond b (1 + run_len f (drop (n + 1) bs)) 0) e
+module _ (bs rest : List ℕ) (n k : ℕ) (q : rest ≡ drop n bs) (run : k ≡ prefix_len is_blank rest) where
+  pub past_blanks : tokens_at bs n ≡ tokens_at bs (n + k)
+  unfolding tokens_at
+  past_blanks = rw (run, q) (blanks (drop n bs) n ∙ ap (stretches_from (n + prefix_len is_blank (drop n bs)) 0) (drop-drop _ n bs))
 
-pub run_end : (f : ℕ → Bool) (bs : List ℕ) (n : ℕ) → length bs ≤ n → run_len f (drop n bs) ≡ 0
-run_end f bs n h = ap (run_len f) (drop_of_length-le bs {i = n} h)
-
--- a blank more
-pub past-blank : (bs : List ℕ) (n : ℕ) → n < length bs → is_blank (get_or bs n 0) ≡ true → tokens_at bs n ≡ tokens_at bs (n + 1)
-unfolding tokens_at
-past-blank bs n h e = ap (stretches_from n 0) (cut bs n h) ∙ ap (λ b. cond b (stretches_from (n + 1) 0 (drop (n + 1) bs)) (placed n (stretch_on (get_or bs n 0) (take (extent (get_or bs n 0) (drop (n + 1) bs)) (get_or bs n 0 ∷ drop (n + 1) bs))) ∷ stretches_from (n + 1) (extent (get_or bs n 0) (drop (n + 1) bs) - 1) (drop (n + 1) bs))) e
+  pub behind_blanks : n + k < length bs → is_blank (get_or bs (n + k) 0) ≡ false
+  behind_blanks h =
+      let short : prefix_len is_blank rest < length rest = omega (arith, ap length q, length-drop n bs) in
+      ap is_blank (sym (get_or-drop n bs k 0) ∙ ap (λ xs. get_or xs k 0) (sym q) ∙ ap (λ m. get_or rest m 0) run) ∙ prefix_len_stops is_blank rest 0 short
 
 -- the end
 pub at_end : (bs : List ℕ) (n : ℕ) → length bs ≤ n → tokens_at bs n ≡ stretches_from n 0 []
@@ -35,103 +49,72 @@ pass [] p (suc k) h = absurd (omega arith)
 pass (b ∷ bs) p zero h = ap (λ q. stretches_from q 0 (b ∷ bs)) (sym (add-zero p))
 pass (b ∷ bs) p (suc k) h = pass bs (p + 1) k (omega arith) ∙ ap (λ q. stretches_from q 0 (drop k bs)) (let e : p + 1 + k ≡ p + suc k = omega arith in e)
 
--- one stretch
-pub stretch : (bs : List ℕ) (n : ℕ) → n < length bs → is_blank (get_or bs n 0) ≡ false → (k : ℕ) → extent (get_or bs n 0) (drop (n + 1) bs) ≡ k + 1 → n + (k + 1) ≤ length bs →
-    tokens_at bs n ≡ placed n (stretch_on (get_or bs n 0) (take (k + 1) (drop n bs))) ∷ tokens_at bs (n + (k + 1))
+-- a stretch at the front
+front : (b : ℕ) (r : List ℕ) (p m : ℕ) → is_blank b ≡ false → extent b r ≡ m → 0 < m → m ≤ length (b ∷ r) → stretches_from p 0 (b ∷ r) ≡ placed p (stretch_on b (take m (b ∷ r))) ∷ stretches_from (p + m) 0 (drop m (b ∷ r))
+front b r p zero dark x some le = absurd (omega arith)
+front b r p (suc k) dark x some le =
+    let less : suc k - 1 ≡ k = omega arith in
+    let on : p + 1 + k ≡ p + suc k = omega arith in
+    cond-false _ _ _ dark
+    ∙ ap (λ m. placed p (stretch_on b (take m (b ∷ r))) ∷ stretches_from (p + 1) (m - 1) r) x
+    ∙ ap (λ ss. placed p (stretch_on b (take (suc k) (b ∷ r))) ∷ ss) (ap (λ m. stretches_from (p + 1) m r) less ∙ pass r (p + 1) k (omega arith) ∙ ap (λ q. stretches_from q 0 (drop k r)) on)
+
+-- the stretch at n, where rest is what the text has from n on
+stretch : (bs rest : List ℕ) (n m : ℕ) → rest ≡ drop n bs → is_blank (get_or rest 0 0) ≡ false → extent (get_or rest 0 0) (drop 1 rest) ≡ m → 0 < m → m ≤ length rest → tokens_at bs n ≡ placed n (stretch_on (get_or rest 0 0) (take m rest)) ∷ tokens_at bs (n + m)
 unfolding tokens_at
-stretch bs n h e k x le =
-    let b = get_or bs n 0 in
-    let r = drop (n + 1) bs in
-    let long : k ≤ length r = simp length-drop (omega arith) in
-    let minus : k + 1 - 1 ≡ k = omega arith in
-    let sum : n + 1 + k ≡ n + (k + 1) = omega arith in
-    ap (stretches_from n 0) (cut bs n h)
-    ∙ ap (λ t. cond t (stretches_from (n + 1) 0 r) (placed n (stretch_on b (take (extent b r) (b ∷ r))) ∷ stretches_from (n + 1) (extent b r - 1) r)) e
-    ∙ ap (λ m. placed n (stretch_on b (take m (b ∷ r))) ∷ stretches_from (n + 1) (m - 1) r) x
-    ∙ ap (λ l. placed n (stretch_on b (take (k + 1) l)) ∷ stretches_from (n + 1) (k + 1 - 1) r) (sym (cut bs n h))
-    ∙ ap (λ m. placed n (stretch_on b (take (k + 1) (drop n bs))) ∷ stretches_from (n + 1) m r) minus
-    ∙ ap (λ l. placed n (stretch_on b (take (k + 1) (drop n bs))) ∷ l) (pass r (n + 1) k long ∙ ap (stretches_from (n + 1 + k) 0) (drop-drop k (n + 1) bs) ∙ ap (λ q. stretches_from q 0 (drop q bs)) sum)
-
--- a word
-pub word-step : (bs : List ℕ) (n e : ℕ) → n < length bs → is_blank (get_or bs n 0) ≡ false → is_letter (get_or bs n 0) ≡ true → e ≡ n + 1 + run_len is_letter (drop (n + 1) bs) → e ≤ length bs →
-    tokens_at bs n ≡ placed n (word (take (e - n) (drop n bs))) ∷ tokens_at bs e
-word-step bs n e h dark letter run le =
-    let k = run_len is_letter (drop (n + 1) bs) in
-    let x : extent (get_or bs n 0) (drop (n + 1) bs) ≡ k + 1 = simp letter (omega arith) in
-    let m : k + 1 ≡ e - n = omega arith in
-    let s : n + (k + 1) ≡ e = omega arith in
-    stretch bs n h dark k x (omega arith)
-    ∙ ap (λ t. placed n (cond t (word (take (k + 1) (drop n bs))) (cond (is_digit (get_or bs n 0)) (number (take (k + 1) (drop n bs))) (symbol_of (take (k + 1) (drop n bs))))) ∷ tokens_at bs (n + (k + 1))) letter
-    ∙ ap (λ i. placed n (word (take i (drop n bs))) ∷ tokens_at bs (n + (k + 1))) m
-    ∙ ap (λ i. placed n (word (take (e - n) (drop n bs))) ∷ tokens_at bs i) s
-
--- a number
-pub number_step : (bs : List ℕ) (n e : ℕ) → n < length bs → is_blank (get_or bs n 0) ≡ false → is_letter (get_or bs n 0) ≡ false → is_digit (get_or bs n 0) ≡ true → e ≡ n + 1 + run_len is_digit (drop (n + 1) bs) → e ≤ length bs →
-    tokens_at bs n ≡ placed n (number (take (e - n) (drop n bs))) ∷ tokens_at bs e
-number_step bs n e h dark letter digit run le =
-    let k = run_len is_digit (drop (n + 1) bs) in
-    let x : extent (get_or bs n 0) (drop (n + 1) bs) ≡ k + 1 = simp (letter, digit) (omega arith) in
-    let m : k + 1 ≡ e - n = omega arith in
-    let s : n + (k + 1) ≡ e = omega arith in
-    stretch bs n h dark k x (omega arith)
-    ∙ ap (λ t. placed n (cond t (word (take (k + 1) (drop n bs))) (cond (is_digit (get_or bs n 0)) (number (take (k + 1) (drop n bs))) (symbol_of (take (k + 1) (drop n bs))))) ∷ tokens_at bs (n + (k + 1))) letter
-    ∙ ap (λ t. placed n (cond t (number (take (k + 1) (drop n bs))) (symbol_of (take (k + 1) (drop n bs)))) ∷ tokens_at bs (n + (k + 1))) digit
-    ∙ ap (λ i. placed n (number (take i (drop n bs))) ∷ tokens_at bs (n + (k + 1))) m
-    ∙ ap (λ i. placed n (number (take (e - n) (drop n bs))) ∷ tokens_at bs i) s
-
-pub part_len : (bs : List ℕ) (n e : ℕ) → n ≤ e → e ≤ length bs → length (take (e - n) (drop n bs)) ≡ e - n
-part_len bs n e a b = length-take-le (e - n) (drop n bs) (simp length-drop (omega arith))
+stretch bs [] n m q dark x some le = absurd (omega arith)
+stretch bs (b ∷ r) n m q dark x some le =
+    ap (stretches_from n 0) (sym q)
+    ∙ front b r n m dark x some le
+    ∙ ap (λ xs. placed n (stretch_on b (take m (b ∷ r))) ∷ stretches_from (n + m) 0 xs) (ap (drop m) q ∙ drop-drop m n bs)
 
 next-cons : (c : ℕ) (r : List ℕ) → next_is c r ≡ true → (rs : List ℕ) × (r ≡ c ∷ rs)
-next-cons c [] e = let z : ◌≡◌ {A = ℕ} 0 1 = cc in absurd (omega arith)
+next-cons c [] e = absurd (false≢true e)
 next-cons c (b ∷ bs) e = (bs, ap (λ x. x ∷ bs) (eqb-true b c e))
 
-both_true : (a b : Bool) → (a && b) ≡ true → (a ≡ true) × (b ≡ true)
-both_true true true e = (refl, refl)
-both_true true false e = (refl, e)
-both_true false true e = (e, refl)
-both_true false false e = (e, e)
+-- the bytes of a symbol: two where `=` follows an angle, and one elsewhere
+symbol_taken : (rest : List ℕ) (two : Bool) → 0 < length rest → (is_angle (get_or rest 0 0) && next_is 61 (drop 1 rest)) ≡ two →
+    (0 < cond two 2 1) × (cond two 2 1 ≤ length rest) × (take (cond two 2 1) rest ≡ cond two (get_or rest 0 0 ∷ 61 ∷ []) (get_or rest 0 0 ∷ []))
+symbol_taken [] two some e = absurd (omega arith)
+symbol_taken (b ∷ r) false some e = (omega arith, omega arith, refl)
+symbol_taken (b ∷ r) true some e =
+    let next = next-cons 61 r (and_parts (is_angle b) (next_is 61 r) e).1 in
+    (omega arith, omega (arith, ap length next.1), ap (λ xs. take 2 (b ∷ xs)) next.1)
 
-pub next_at : (bs : List ℕ) (n c : ℕ) → n < length bs → next_is c (drop n bs) ≡ eqb (get_or bs n 0) c
-next_at bs n c h = ap (next_is c) (cut bs n h)
+module _ (bs rest : List ℕ) (n : ℕ) (q : rest ≡ drop n bs) (dark_there : is_blank (get_or bs n 0) ≡ false) (in_text : n < length bs) where
+  dark : is_blank (get_or rest 0 0) ≡ false
+  dark = ap is_blank (ap (λ xs. get_or xs 0 0) q ∙ get_or-drop n bs 0 0 ∙ ap (λ i. get_or bs i 0) (add-zero n)) ∙ dark_there
 
-pub next-end : (bs : List ℕ) (n c : ℕ) → length bs ≤ n → next_is c (drop n bs) ≡ false
-next-end bs n c h = ap (next_is c) (drop_of_length-le bs {i = n} h)
+  some : 0 < length rest
+  some = omega (arith, ap length q, length-drop n bs)
 
-extent-symbol : (b : ℕ) (r : List ℕ) → is_letter b ≡ false → is_digit b ≡ false → extent b r ≡ cond (is_angle b && next_is 61 r) 2 1
-extent-symbol b r l d =
-    ap (λ v. cond v (1 + run_len is_letter r) (cond (is_digit b) (1 + run_len is_digit r) (cond (is_angle b && next_is 61 r) 2 1))) l
-    ∙ ap (λ v. cond v (1 + run_len is_digit r) (cond (is_angle b && next_is 61 r) 2 1)) d
+  -- a run of bytes of one kind
+  run_step : (kind : ℕ → Bool) (made : List ℕ → Stretch) (m : ℕ) → m ≡ prefix_len kind rest → kind (get_or rest 0 0) ≡ true → extent (get_or rest 0 0) (drop 1 rest) ≡ 1 + prefix_len kind (drop 1 rest) → ((w : List ℕ) → stretch_on (get_or rest 0 0) w ≡ made w) →
+      tokens_at bs n ≡ placed n (made (take m rest)) ∷ tokens_at bs (n + length (take m rest))
+  run_step kind made m run first x is =
+      let more : prefix_len kind rest ≡ 1 + prefix_len kind (drop 1 rest) = prefix_len-drop_yes kind rest 0 0 some first in
+      let le : m ≤ length rest = omega (arith, prefix_len-le-length kind rest) in
+      let long : length (take m rest) ≡ m = length-take-le m rest le in
+      stretch bs rest n m q dark (x ∙ sym more ∙ sym run) (omega arith) le
+      ∙ ap (λ s. placed n s ∷ tokens_at bs (n + m)) (is (take m rest))
+      ∙ ap (λ k. placed n (made (take m rest)) ∷ tokens_at bs (n + k)) (sym long)
 
-on_symbol : (b : ℕ) (w : List ℕ) → is_letter b ≡ false → is_digit b ≡ false → stretch_on b w ≡ symbol_of w
-on_symbol b w l d = ap (λ v. cond v (word w) (cond (is_digit b) (number w) (symbol_of w))) l ∙ ap (λ v. cond v (number w) (symbol_of w)) d
+  pub word_step : (m : ℕ) → m ≡ prefix_len is_letter rest → is_letter (get_or rest 0 0) ≡ true → tokens_at bs n ≡ placed n (word (take m rest)) ∷ tokens_at bs (n + length (take m rest))
+  word_step m run letter = run_step is_letter word m run letter (cond-true _ _ _ letter) (λ w. cond-true _ _ _ letter)
 
-pub symbol-step : (bs : List ℕ) (n : ℕ) (o : Option Symbol) → n < length bs → is_blank (get_or bs n 0) ≡ false → is_letter (get_or bs n 0) ≡ false → is_digit (get_or bs n 0) ≡ false → SymbolAt (get_or bs n 0) (next_is 61 (drop (n + 1) bs)) o →
-    (n + symbol_span o ≤ length bs) × (0 < symbol_span o) × (tokens_at bs n ≡ placed n (symbol_stretch o) ∷ tokens_at bs (n + symbol_span o))
-symbol-step bs n o h dark letter digit s = go (is_angle (get_or bs n 0) && next_is 61 (drop (n + 1) bs)) refl
-  where
-    go : (t : Bool) → (is_angle (get_or bs n 0) && next_is 61 (drop (n + 1) bs)) ≡ t → (n + symbol_span o ≤ length bs) × (0 < symbol_span o) × (tokens_at bs n ≡ placed n (symbol_stretch o) ∷ tokens_at bs (n + symbol_span o))
-    go true e =
-        let two = both_true (is_angle (get_or bs n 0)) (next_is 61 (drop (n + 1) bs)) e in
-        let nx = next-cons 61 (drop (n + 1) bs) two.1 in
-        let span : symbol_span o ≡ 2 = s.span ∙ ap (λ v. cond v 2 1) e in
-        let got : symbol_of (get_or bs n 0 ∷ 61 ∷ []) ≡ symbol_stretch o = sym (ap (λ v. symbol_of (cond v (get_or bs n 0 ∷ 61 ∷ []) (get_or bs n 0 ∷ []))) e) ∙ s.is in
-        let le : n + 2 ≤ length bs = omega (arith, sym (length-drop (n + 1) bs) ∙ ap length nx.1) in
-        let w : take 2 (drop n bs) ≡ get_or bs n 0 ∷ 61 ∷ [] = ap (take 2) (cut bs n h ∙ ap (λ l. get_or bs n 0 ∷ l) nx.1) in
-        let st : tokens_at bs n ≡ placed n (stretch_on (get_or bs n 0) (take 2 (drop n bs))) ∷ tokens_at bs (n + 2) = stretch bs n h dark 1 (extent-symbol (get_or bs n 0) (drop (n + 1) bs) letter digit ∙ ap (λ v. cond v 2 1) e) le in (
-          omega arith,
-          omega arith,
-          st ∙ ap (λ g. placed n g ∷ tokens_at bs (n + 2)) (on_symbol (get_or bs n 0) (take 2 (drop n bs)) letter digit ∙ ap symbol_of w ∙ got) ∙ ap (λ k. placed n (symbol_stretch o) ∷ tokens_at bs (n + k)) (sym span),
-        )
-    go false e =
-        let span : symbol_span o ≡ 1 = s.span ∙ ap (λ v. cond v 2 1) e in
-        let got : symbol_of (get_or bs n 0 ∷ []) ≡ symbol_stretch o = sym (ap (λ v. symbol_of (cond v (get_or bs n 0 ∷ 61 ∷ []) (get_or bs n 0 ∷ []))) e) ∙ s.is in
-        let w : take 1 (drop n bs) ≡ get_or bs n 0 ∷ [] = ap (take 1) (cut bs n h) in
-        let st : tokens_at bs n ≡ placed n (stretch_on (get_or bs n 0) (take 1 (drop n bs))) ∷ tokens_at bs (n + 1) = stretch bs n h dark 0 (extent-symbol (get_or bs n 0) (drop (n + 1) bs) letter digit ∙ ap (λ v. cond v 2 1) e) (omega arith) in (
-          omega arith,
-          omega arith,
-          st ∙ ap (λ g. placed n g ∷ tokens_at bs (n + 1)) (on_symbol (get_or bs n 0) (take 1 (drop n bs)) letter digit ∙ ap symbol_of w ∙ got) ∙ ap (λ k. placed n (symbol_stretch o) ∷ tokens_at bs (n + k)) (sym span),
-        )
+  pub number_step : (m : ℕ) → m ≡ prefix_len is_digit rest → is_letter (get_or rest 0 0) ≡ false → is_digit (get_or rest 0 0) ≡ true → tokens_at bs n ≡ placed n (number (take m rest)) ∷ tokens_at bs (n + length (take m rest))
+  number_step m run no_letter digit =
+      run_step is_digit number m run digit (cond-false _ _ _ no_letter ∙ cond-true _ _ _ digit) (λ w. cond-false _ _ _ no_letter ∙ cond-true _ _ _ digit)
+
+  pub symbol_step : (o : Option Symbol) → is_letter (get_or rest 0 0) ≡ false → is_digit (get_or rest 0 0) ≡ false → SymbolAt (get_or rest 0 0) (next_is 61 (drop 1 rest)) o →
+      tokens_at bs n ≡ placed n (symbol_stretch o) ∷ tokens_at bs (n + symbol_span o)
+  symbol_step o no_letter no_digit s =
+      let two = is_angle (get_or rest 0 0) && next_is 61 (drop 1 rest) in
+      let x : extent (get_or rest 0 0) (drop 1 rest) ≡ cond two 2 1 = cond-false _ _ _ no_letter ∙ cond-false _ _ _ no_digit in
+      let taken = symbol_taken rest two some refl in
+      let span : symbol_span o ≡ cond two 2 1 = s.span in
+      stretch bs rest n (symbol_span o) q dark (x ∙ sym span) (omega (arith, taken.0)) (omega (arith, taken.1))
+      ∙ ap (λ g. placed n g ∷ tokens_at bs (n + symbol_span o)) (cond-false _ _ _ no_letter ∙ cond-false _ _ _ no_digit ∙ ap (λ k. symbol_of (take k rest)) span ∙ ap symbol_of taken.2 ∙ s.is)
 
 data Goes : Stretch → Type 0 where
   goes : {s : Stretch} → is_end s ≡ false → Goes s
@@ -166,15 +149,8 @@ begins bs n h e =
 -- what stands at n, where only blanks are before it from m on
 pub ended : (bs : List ℕ) (m n : ℕ) (r : Bool) → leb (length bs) n ≡ r → tokens_at bs m ≡ tokens_at bs n → (n < length bs → is_blank (get_or bs n 0) ≡ false) → AtEnd (tokens_at bs m) r (tokens_at bs n)
 ended bs m n true t s stops =
-    record { stays = sym s; next = placed n end; rest = []; split = s ∙ at_end bs n (leb-true (length bs) n t); only = λ _. (refl, refl); more = λ e. let z : ◌≡◌ {A = ℕ} 0 1 = cc in absurd (omega arith) }
+    record { stays = sym s; next = placed n end; rest = []; split = s ∙ at_end bs n (leb-true (length bs) n t); only = λ _. (refl, refl); more = λ e. cc }
 ended bs m n false t s stops =
     let h = leb-false (length bs) n t in
     let b = begins bs n h (stops h) in
-    record { stays = sym s; next = placed n b.0; rest = b.1; split = s ∙ b.2; only = λ e. let z : ◌≡◌ {A = ℕ} 0 1 = cc in absurd (omega arith); more = λ _. b.3 }
-
-pub token-goes : (t : Token) → 0 < token_len t → is_end (stretch_of t) ≡ false
-token-goes (Word w) h = refl
-token-goes (Number w) h = refl
-token-goes (Mark s) h = refl
-token-goes Stray h = refl
-token-goes End h = absurd (omega arith)
+    record { stays = sym s; next = placed n b.0; rest = b.1; split = s ∙ b.2; only = λ e. cc; more = λ _. b.3 }

@@ -1,5 +1,5 @@
 -- What a token of the code stands for in the text, and what the cursor's calls ensure.
-use Rattle.std.specs.Prelude.{◌≡◌, ℕ, Bool, true, false, cond, ◌&&◌, List, [], ◌∷◌, length, drop, Some, None, Option}
+use Rattle.std.specs.Prelude.{◌≡◌, ℕ, Bool, true, false, if◌then◌else◌, ◌&&◌, List, [], ◌∷◌, length, drop, Some, None, Option}
 use Rattle.tokens.specs.declared.source.Cursor.{Cursor}
 use Rattle.tokens.specs.declared.token.Found.{Found}
 use Rattle.tokens.specs.declared.token.Symbol.{Symbol}
@@ -53,8 +53,8 @@ symbol_span (Some s) = symbol_len s
 
 -- what a byte that is no letter and no digit stands for, where eq says whether `=` follows it
 pub record SymbolAt (b : ℕ) (eq : Bool) (r : Option Symbol) : Type 0 where
-  pub is : symbol_of (cond (is_angle b && eq) (b ∷ 61 ∷ []) (b ∷ [])) ≡ symbol_stretch r
-  pub span : symbol_span r ≡ cond (is_angle b && eq) 2 1
+  pub is : symbol_of (if is_angle b && eq then b ∷ 61 ∷ [] else b ∷ []) ≡ symbol_stretch r
+  pub span : symbol_span r ≡ (if is_angle b && eq then 2 else 1)
 
 -- The next stretch was taken; the end stays ahead.
 pub record Next (from : List Placed) (r : Found) (to : List Placed) : Type 0 where

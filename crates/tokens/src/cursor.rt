@@ -1,6 +1,7 @@
 // Cuts a text into tokens, one at a time.
-ghost use Rattle.std.specs.Prelude.{◌≡◌, ℕ, ◌+◌, ◌-◌, ◌<◌, ◌≤◌, true, false, [], ◌∷◌, length, drop, slice_index};
-ghost use Rattle.tokens.specs.Text.{is_blank, is_letter, is_digit, run_len, next_is, placed, stretches, is_end};
+ghost use Rattle.std.specs.List.{prefix_len};
+ghost use Rattle.std.specs.Prelude.{◌≡◌, ℕ, Bool, ◌+◌, ◌-◌, ◌<◌, ◌≤◌, true, false, [], ◌∷◌, length, drop, slice_index};
+ghost use Rattle.tokens.specs.Text.{is_blank, is_letter, is_digit, next_is, placed, stretches, is_end};
 ghost use Rattle.tokens.specs.Tokens.{stretch_of, token_len, tokens_at, SymbolAt, ahead, Next, AtEnd};
 
 use crate::source::Cursor;
@@ -9,47 +10,36 @@ use crate::token::{Found, Symbol, Token};
 fn is_blank(b: u8) -> bool
     ensures { result ≡ is_blank b }
 {
-    b == b' ' || b == b'\n'
+    matches!(b, b' ' | b'\n')
 }
 
 fn is_letter(b: u8) -> bool
     ensures { result ≡ is_letter b }
 {
-    (b'A' <= b && b <= b'Z') || (b'a' <= b && b <= b'z')
+    b.is_ascii_alphabetic()
 }
 
 fn is_digit(b: u8) -> bool
     ensures { result ≡ is_digit b }
 {
-    b'0' <= b && b <= b'9'
+    b.is_ascii_digit()
 }
 
-// The end of the run of letters from `from` on.
-fn letters_end(text: &[u8], from: usize) -> usize
-    requires { from ≤ length text.now }
-    ensures low { from ≤ result }
-    ensures within { result ≤ length text.now }
-    ensures run { result ≡ from + run_len is_letter (drop from text.now) }
+// How many bytes at the front are of a kind.
+fn run_len<K: Fn(u8) -> bool>(bytes: &[u8], kind: K) -> usize
+    ghost test: { ℕ → Bool }
+    requires callable { K.IsAlwaysCallable kind }
+    requires tells { (b : ℕ) (t : Bool) → b < 256 → K.post kind b t → t ≡ test b }
+    ensures run { result ≡ prefix_len test bytes.now }
+    ensures within { result ≤ length bytes.now }
 {
-    let mut at = from;
-    while at < text.len() && is_letter(text[at]) {
-        at += 1;
+    // (As `take_while` and `count` the search gives up: the chain's law does not go through any `kind`.)
+    for (n, b) in bytes.iter().enumerate() {
+        if !kind(*b) {
+            return n;
+        }
     }
-    at
-}
-
-// The end of the run of digits from `from` on.
-fn digits_end(text: &[u8], from: usize) -> usize
-    requires { from ≤ length text.now }
-    ensures low { from ≤ result }
-    ensures within { result ≤ length text.now }
-    ensures run { result ≡ from + run_len is_digit (drop from text.now) }
-{
-    let mut at = from;
-    while at < text.len() && is_digit(text[at]) {
-        at += 1;
-    }
-    at
+    bytes.len()
 }
 
 // The first place from `from` on that has no blank.
@@ -60,38 +50,28 @@ fn skip_blanks(text: &[u8], from: usize) -> usize
     ensures same { tokens_at text.now from ≡ tokens_at text.now result }
     ensures stops { result < length text.now → is_blank (slice_index text.now result) ≡ false }
 {
-    let mut at = from;
-    while at < text.len() && is_blank(text[at]) {
-        at += 1;
-    }
-    at
+    from + run_len(&text[from..], is_blank)
 }
 
-// The symbol that begins with `b`, where `eq` says whether `=` follows.
-fn symbol_at(b: u8, eq: bool) -> Option<Symbol>
-    ensures { SymbolAt b eq result }
+// The symbol at the front.
+#[tactic(auto, unfolding(crate::specs::Text::symbol_of, crate::specs::Text::same))]
+fn symbol_at(rest: &[u8]) -> Option<Symbol>
+    ensures { SymbolAt (slice_index rest.now 0) (next_is 61 (drop 1 rest.now)) result }
 {
-    match b {
-        b'<' => if eq { Some(Symbol::AtMost) } else { None },
-        b'>' => if eq { Some(Symbol::AtLeast) } else { None },
-        b'=' => Some(Symbol::Equal),
-        b'+' => Some(Symbol::Plus),
-        b'*' => Some(Symbol::Times),
-        b',' => Some(Symbol::Comma),
-        b';' => Some(Symbol::Semicolon),
-        b'(' => Some(Symbol::Open),
-        b')' => Some(Symbol::Close),
-        b'[' => Some(Symbol::OpenSquare),
-        b']' => Some(Symbol::CloseSquare),
+    match rest {
+        [b'<', b'=', ..] => Some(Symbol::AtMost),
+        [b'>', b'=', ..] => Some(Symbol::AtLeast),
+        [b'=', ..] => Some(Symbol::Equal),
+        [b'+', ..] => Some(Symbol::Plus),
+        [b'*', ..] => Some(Symbol::Times),
+        [b',', ..] => Some(Symbol::Comma),
+        [b';', ..] => Some(Symbol::Semicolon),
+        [b'(', ..] => Some(Symbol::Open),
+        [b')', ..] => Some(Symbol::Close),
+        [b'[', ..] => Some(Symbol::OpenSquare),
+        [b']', ..] => Some(Symbol::CloseSquare),
         _ => None,
     }
-}
-
-// Whether `=` stands at `at`.
-fn equals_at(text: &[u8], at: usize) -> bool
-    ensures { result ≡ next_is 61 (drop at text.now) }
-{
-    at < text.len() && text[at] == b'='
 }
 
 // The token that begins at `at`, the longest stretch there.
@@ -102,32 +82,17 @@ fn token_at<'a>(text: &'a [u8], at: usize) -> Token<'a>
     ensures some { 0 < token_len result }
     ensures step { tokens_at text.now at ≡ placed at (stretch_of result) ∷ tokens_at text.now (at + token_len result) }
 {
-    let b = text[at];
-    if is_letter(b) {
-        let end = letters_end(text, at + 1);
-        return Token::Word(&text[at..end]);
+    let rest = &text[at..];
+    if is_letter(rest[0]) {
+        return Token::Word(&rest[..run_len(rest, is_letter)]);
     }
-    if is_digit(b) {
-        let end = digits_end(text, at + 1);
-        return Token::Number(&text[at..end]);
+    if is_digit(rest[0]) {
+        return Token::Number(&rest[..run_len(rest, is_digit)]);
     }
-    match symbol_at(b, equals_at(text, at + 1)) {
-        Some(s) => Token::Mark(s),
+    // (No `map_or`: a variant that borrows the text is not passed as a function.)
+    match symbol_at(rest) {
+        Some(symbol) => Token::Mark(symbol),
         None => Token::Stray,
-    }
-}
-
-fn token_len(t: Token<'_>) -> usize
-    ensures { result ≡ token_len t.entry }
-{
-    match t {
-        Token::Word(w) => w.len(),
-        Token::Number(w) => w.len(),
-        Token::Mark(Symbol::AtMost) => 2,
-        Token::Mark(Symbol::AtLeast) => 2,
-        Token::Mark(_) => 1,
-        Token::Stray => 1,
-        Token::End => 0,
     }
 }
 
@@ -162,6 +127,6 @@ pub fn next<'a>(cur: &mut Cursor<'a>) -> Found<'a>
         };
     }
     let token = token_at(text, place);
-    cur.pos = place + token_len(token);
+    cur.pos = place + token.len();
     Found { token, place }
 }

@@ -1,4 +1,6 @@
 // A token is a stretch of the text; its word and number cases borrow the text.
+ghost use Rattle.std.specs.Prelude.{◌≡◌};
+ghost use Rattle.tokens.specs.Tokens.{token_len};
 
 #[derive(Clone, Copy)]
 pub enum Symbol {
@@ -23,6 +25,20 @@ pub enum Token<'a> {
     // a byte that no token has
     Stray,
     End,
+}
+
+impl Token<'_> {
+    // How many bytes the token has.
+    pub(crate) fn len(self) -> usize
+        ensures { result ≡ token_len self.entry }
+    {
+        match self {
+            Token::Word(bytes) | Token::Number(bytes) => bytes.len(),
+            Token::Mark(Symbol::AtMost | Symbol::AtLeast) => 2,
+            Token::Mark(_) | Token::Stray => 1,
+            Token::End => 0,
+        }
+    }
 }
 
 // A token with its place, the count of bytes before it.

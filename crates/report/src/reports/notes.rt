@@ -26,7 +26,7 @@ impl Report {
         ensures { (xs : List Item) → Reports xs self.old → Reports (xs ++ (Item.Sound line ∷ [])) self.new }
     {
         self.sound = self.sound.saturating_add(1);
-        self.first_time = Some(self.first_time.unwrap_or(line.time));
+        self.first_time = self.first_time.or(Some(line.time));
         self.last_time = Some(line.time);
     }
 

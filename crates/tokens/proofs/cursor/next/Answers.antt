@@ -1,4 +1,4 @@
-use Rattle.std.proofs.Common.{◌≡◌, ℕ, ◌+◌, [], ◌∷◌, sym, refl, ap, ◌∙◌, arith}
+use Rattle.std.proofs.Common.{◌+◌, [], ◌∷◌, sym, refl, ap, ◌∙◌}
 use Rattle.tokens.specs.Text.{placed}
 use Rattle.tokens.specs.Tokens.{tokens_at, stretch_of}
 use Rattle.tokens.proofs.Lexing.{at_end}
@@ -6,7 +6,7 @@ use Rattle.tokens.proofs.cursor.next.Goals as goal
 
 pub returns-then-place-text : goal.returns-then-place-text
 returns-then-place-text c =
-    record { rest = []; split = c.skip_blanks-place.ensures.same ∙ at_end _ _ c.if-place-text.true; goes = λ e. let z : ◌≡◌ {A = ℕ} 0 1 = cc in absurd (omega arith) }
+    record { rest = []; split = c.skip_blanks-place.ensures.same ∙ at_end _ _ c.if-place-text.true; goes = λ e. cc }
 
 pub returns : goal.returns
 returns c =
@@ -14,7 +14,7 @@ returns c =
     let p = c.skip_blanks-place.result in
     let bs = c.args.cur.now.text.now in
     record {
-      rest = tokens_at bs (p + c.token_len.result);
-      split = c.skip_blanks-place.ensures.same ∙ told.step ∙ ap (λ k. placed p (stretch_of c.token_at-token.result) ∷ tokens_at bs (p + k)) (sym c.token_len.ensures);
+      rest = tokens_at bs (p + c.len.result);
+      split = c.skip_blanks-place.ensures.same ∙ told.step ∙ ap (λ k. placed p (stretch_of c.token_at-token.result) ∷ tokens_at bs (p + k)) (sym c.len.ensures);
       goes = λ _. refl;
     }

@@ -1,6 +1,9 @@
-use Rattle.std.proofs.Common.{sym, ◌∙◌, arith}
-use Rattle.tokens.proofs.Lexing.{past-blank}
+use Rattle.std.proofs.lemmas.List.{take_rest}
+use Rattle.tokens.proofs.Lexing.{past_blanks, behind_blanks}
 use Rattle.tokens.proofs.cursor.skip_blanks.Goals as goal
 
-pub loop-at-preserved : goal.loop-at-preserved
-loop-at-preserved c = (omega arith, omega arith, c.loop-at.invariant.2 ∙ past-blank c.args.text.now c.loop-at.at c.loop-at-test.true (sym c.if-is_blank.ensures))
+pub returns-clause-same : goal.returns-clause-same
+returns-clause-same c = past_blanks _ _ _ _ (take_rest c.args.text.now c.args.from) c.run_len.ensures.run
+
+pub returns-clause-stops : goal.returns-clause-stops
+returns-clause-stops c = behind_blanks _ _ _ _ (take_rest c.args.text.now c.args.from) c.run_len.ensures.run
