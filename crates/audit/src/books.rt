@@ -8,7 +8,8 @@ use book::refusals::{Fault, Reason, Refusal};
 use book::whole::read_book;
 use std::alloc::{AllocError, Global};
 
-// The reason in words.
+// The reason in words. (`Reason` is the book's type: a `Display` here would need a type around it, and no place to
+// write to is needed.)
 fn words(reason: Reason) -> &'static str {
     match reason {
         Reason::TooLong => "the text has more than 8,192 bytes",

@@ -18,6 +18,7 @@ use std::alloc::AllocError;
 fn packed_words(rt: &HostRuntime, text: &[u8]) -> anyhow::Result<Vec<u32>> {
     let mut feed = opened::<Text>(text, 2)?;
     let mut words = Vec::new(rt.alloc());
+    // (A `while let` would need a measure, and a feed shows no count of what waits; it has fewer items than bytes.)
     for _ in 0..text.len() {
         let Some(item) = feed.look() else {
             break;

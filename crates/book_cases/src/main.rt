@@ -10,7 +10,8 @@ use std::io::Read;
 // The byte that parts two texts.
 const PARTING: u8 = 30;
 
-// How many nodes a rule has.
+// How many nodes a rule has. (The count that stepping makes has eight bits, which a book's limits allow; this one asks for
+// no limit.)
 fn nodes(rule: &Rule) -> usize {
     match rule {
         Rule::Duty(_, _, _) => 1,

@@ -137,7 +137,7 @@ fn packed_opening(rt: &HostRuntime, len: usize, station: u16, first: u64) -> any
     opening::<Packed>(rt, PACKED, 10_000_000, len, station, first)
 }
 
-// The numbers of a text, parted by white space.
+// The numbers of a text, parted by white space. (`report_cases` has the same chain; a crate for it would be no plainer.)
 fn numbers(rt: &HostRuntime, path: &str) -> anyhow::Result<Vec<u32>> {
     let text = fs::read_to_string(rt, path)?;
     text.as_str()
@@ -180,21 +180,17 @@ fn openings(rt: &HostRuntime) -> anyhow::Result<()> {
     text_opening(rt, 65_537, 1, 0)
 }
 
+fn refused(_refusal: OpenRefusal) -> anyhow::Error {
+    anyhow!("a feed was refused")
+}
+
 // A joined feed of joined feeds, of two makes.
 fn joined(rt: &HostRuntime, text: &[u8], words: &[u32]) -> anyhow::Result<()> {
     println!(rt; "joined feed of joined feeds")?;
-    let (Ok(a), Ok(b)) = (
-        InputFeed::<Text>::open(text, 1, 1),
-        InputFeed::<Packed>::open(words, 2, 1),
-    ) else {
-        return Err(anyhow!("a feed was refused"));
-    };
-    let (Ok(c), Ok(d)) = (
-        InputFeed::<Packed>::open(words, 3, 1),
-        InputFeed::<Text>::open(text, 4, 1),
-    ) else {
-        return Err(anyhow!("a feed was refused"));
-    };
+    let a = InputFeed::<Text>::open(text, 1, 1).map_err(refused)?;
+    let b = InputFeed::<Packed>::open(words, 2, 1).map_err(refused)?;
+    let c = InputFeed::<Packed>::open(words, 3, 1).map_err(refused)?;
+    let d = InputFeed::<Text>::open(text, 4, 1).map_err(refused)?;
     drain(
         rt,
         &mut Joined::new(Joined::new(a, b), Joined::new(c, d)),
