@@ -1,14 +1,15 @@
 // `audit BOOK LOG [LOG]`: the verdict page and the sheet page of a recording, or of two joined.
 use crate::books::told;
 use crate::files::bytes_of;
-use crate::recording::opened;
+use crate::recording::{Log, opened};
 use crate::turns::{pages_of, push_pages, take_turn, taken_by, takes_for};
 use crate::{Status, misused};
 use auditor::answers::{Refusal, Stop, Taken};
-use feed::faults::{Fault, FaultNumbers};
+use feed::faults::Fault;
 use feed::feeds::Feed;
 use feed::inputs::Text;
 use feed::joins::Joined;
+use report::rows::Named;
 use runs::calls::{Side, Turn};
 use runs::observers::Unobserved;
 use runs::pair::Pair;
@@ -30,17 +31,12 @@ struct Place(Fault);
 
 impl fmt::Display for Place {
     fn fmt<W: fmt::Write>(&self, f: &mut fmt::Formatter<W>) -> fmt::Result {
-        let FaultNumbers {
+        let Fault {
+            kind,
             station,
             item,
-            field,
-            ..
-        } = self.0.numbers();
-        write!(f, "station {station}, item {item}, ")?;
-        match self.0.kind.field() {
-            Some(named) => write!(f, "field {field} {}", named.name()),
-            None => f.write_str("no field"),
-        }
+        } = self.0;
+        write!(f, "station {station}, item {item}, {}", Named(kind.field()))
     }
 }
 
@@ -51,16 +47,18 @@ struct Stopped(Taken);
 impl fmt::Display for Stopped {
     fn fmt<W: fmt::Write>(&self, f: &mut fmt::Formatter<W>) -> fmt::Result {
         let Taken { lines, stop } = self.0;
-        let Stop::Refused(refusal) = stop else {
-            let reason = if let Stop::Dry = stop { "dry" } else { "done" };
-            return write!(f, "stopped: {reason} after {lines} lines");
-        };
-        let number = refusal.numbers().number;
-        let words = refusal.words();
-        write!(f, "stopped: refused {number} after {lines} lines: {words}")?;
-        match refusal {
-            Refusal::Faulty(fault) => write!(f, ", {}", Place(fault)),
-            _ => Ok(()),
+        match stop {
+            Stop::Done => write!(f, "stopped: done after {lines} lines"),
+            Stop::Dry => write!(f, "stopped: dry after {lines} lines"),
+            Stop::Refused(refusal) => {
+                let number = refusal.numbers().number;
+                let words = refusal.words();
+                write!(f, "stopped: refused {number} after {lines} lines: {words}")?;
+                match refusal {
+                    Refusal::Faulty(fault) => write!(f, ", {}", Place(fault)),
+                    _ => Ok(()),
+                }
+            }
         }
     }
 }
@@ -79,17 +77,15 @@ pub fn tell_stop(rt: &HostRuntime, taken: Taken) -> anyhow::Result<Status> {
 pub fn run_feed<F: Feed + Drop>(
     rt: &HostRuntime,
     book: &[u8],
-    feed: F,
-    items: usize,
+    log: Log<F>,
 ) -> anyhow::Result<Option<Run>> {
     let heap = rt.alloc();
-    let mut turns = Vec::new(heap);
-    for _ in 0..takes_for(Side::First, items) {
-        turns.push(take_turn(heap, Side::First))?;
-    }
+    let mut turns: Vec<Turn> = (0..takes_for(Side::First, log.items))
+        .map(|_| take_turn(heap, Side::First))
+        .collect(heap)?;
     push_pages(&mut turns, heap, Side::First)?;
     let mut rack = Rack {
-        first: feed,
+        first: log.feed,
         rest: NoFeeds,
     };
     match audit_both(
@@ -112,10 +108,9 @@ pub fn run_feed<F: Feed + Drop>(
 fn audit_feed<F: Feed + Drop>(
     rt: &HostRuntime,
     book: &[u8],
-    feed: F,
-    items: usize,
+    log: Log<F>,
 ) -> anyhow::Result<Status> {
-    let Some(run) = run_feed(rt, book, feed, items)? else {
+    let Some(run) = run_feed(rt, book, log)? else {
         return Ok(Status::Refused);
     };
     let pages = pages_of(rt.alloc(), run.turns.as_slice(), Side::First)?;
@@ -129,22 +124,17 @@ pub fn audit(rt: &HostRuntime, paths: &[String]) -> anyhow::Result<Status> {
         [book, log] => {
             let book = bytes_of(rt, book.as_str())?;
             let text = bytes_of(rt, log.as_str())?;
-            let feed = opened::<Text>(text.as_slice(), 1)?;
-            audit_feed(rt, book.as_slice(), feed, text.len() / 35)
+            audit_feed(rt, book.as_slice(), opened::<Text>(text.as_slice(), 1)?)
         }
         [book, left, right] => {
             let book = bytes_of(rt, book.as_str())?;
             let left = bytes_of(rt, left.as_str())?;
             let right = bytes_of(rt, right.as_str())?;
-            let items = (left.len() / 35).saturating_add(right.len() / 35);
-            let left_feed = opened::<Text>(left.as_slice(), 1)?;
-            let right_feed = opened::<Text>(right.as_slice(), 2)?;
-            audit_feed(
-                rt,
-                book.as_slice(),
-                Joined::new(left_feed, right_feed),
-                items,
-            )
+            let left = opened::<Text>(left.as_slice(), 1)?;
+            let right = opened::<Text>(right.as_slice(), 2)?;
+            let items = left.items.saturating_add(right.items);
+            let feed = Joined::new(left.feed, right.feed);
+            audit_feed(rt, book.as_slice(), Log { feed, items })
         }
         _ => misused(rt),
     }

@@ -25,10 +25,10 @@ fn words(reason: Reason) -> &'static str {
 // Where the line with the place starts: behind the last line feed before it.
 fn line_start(text: &[u8], place: usize) -> usize {
     let before = text.get(0..place).unwrap_or(text);
-    match before.iter().rposition(|byte| *byte == b'\n') {
-        Some(at) => at.saturating_add(1),
-        None => 0,
-    }
+    before
+        .iter()
+        .rposition(|byte| *byte == b'\n')
+        .map_or(0, |at| at.saturating_add(1))
 }
 
 // The bytes of that line as text; what is no ASCII character that can be shown is a question mark.

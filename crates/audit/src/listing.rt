@@ -73,25 +73,32 @@ impl fmt::Display for Written<Binder> {
     }
 }
 
+// Parts in a row, the first behind an opening and the others behind commas.
+struct Row<'a, T>(&'static str, &'a [T]);
+
+impl<T: Copy> fmt::Display for Row<'_, T>
+where
+    Written<T>: fmt::Display,
+{
+    fn fmt<W: fmt::Write>(&self, f: &mut fmt::Formatter<W>) -> fmt::Result {
+        let mut parting = self.0;
+        for part in self.1 {
+            write!(f, "{parting}{}", Written(*part))?;
+            parting = ", ";
+        }
+        Ok(())
+    }
+}
+
 impl fmt::Display for Written<&Pattern> {
     fn fmt<W: fmt::Write>(&self, f: &mut fmt::Formatter<W>) -> fmt::Result {
-        let Pattern::Lines {
-            binders,
-            conditions,
-        } = self.0
-        else {
-            return f.write_str("never");
-        };
-        f.write_str("[")?;
-        for (i, binder) in binders.iter().enumerate() {
-            f.write_str(if i == 0 { "" } else { ", " })?;
-            write!(f, "{}", Written(*binder))?;
+        match self.0 {
+            Pattern::Never => f.write_str("never"),
+            Pattern::Lines {
+                binders,
+                conditions,
+            } => write!(f, "[{}{}]", Row("", binders), Row(" if ", conditions)),
         }
-        for (i, condition) in conditions.iter().enumerate() {
-            f.write_str(if i == 0 { " if " } else { ", " })?;
-            write!(f, "{}", Written(*condition))?;
-        }
-        f.write_str("]")
     }
 }
 
@@ -119,7 +126,8 @@ impl fmt::Display for Written<&Rule> {
     }
 }
 
-// Which of the letters A to H are bound.
+// Which of the letters A to H are bound. (The reader's own sets are not public: they would be calls of the book's for this
+// listing alone.)
 #[derive(Clone, Copy)]
 struct Bound([bool; 8]);
 

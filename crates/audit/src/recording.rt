@@ -9,12 +9,23 @@ use feed::recordings::Recording;
 use report::rows::{fault_row, summary};
 use report::surveys::survey;
 
+// A recording as a feed, and how many whole items its input has.
+pub struct Log<F> {
+    pub feed: F,
+    pub items: usize,
+}
+
 // The recording, in either encoding, as a feed of the station.
-pub fn opened<E: Fitting>(input: &[E::Unit], station: u16) -> anyhow::Result<Recording<'_, E>> {
-    Recording::<E>::open(input, station).map_err(|e| anyhow!(
+pub fn opened<E: Fitting>(
+    input: &[E::Unit],
+    station: u16,
+) -> anyhow::Result<Log<Recording<'_, E>>> {
+    let feed = Recording::<E>::open(input, station).map_err(|e| anyhow!(
         "refused {}: a station is numbered 1 to 9,999",
         e.number()
-    ))
+    ))?;
+    let items = input.len().checked_div(E::width()).unwrap_or(0);
+    Ok(Log { feed, items })
 }
 
 // Prints the report on all that waits in a feed.
@@ -33,15 +44,15 @@ pub fn report_on(rt: &HostRuntime, logs: &[String]) -> anyhow::Result<Status> {
     match logs {
         [log] => {
             let text = bytes_of(rt, log.as_str())?;
-            let mut feed = opened::<Text>(text.as_slice(), 1)?;
-            print_report(rt, &mut feed)
+            let mut log = opened::<Text>(text.as_slice(), 1)?;
+            print_report(rt, &mut log.feed)
         }
         [left, right] => {
             let left_text = bytes_of(rt, left.as_str())?;
             let right_text = bytes_of(rt, right.as_str())?;
-            let left_feed = opened::<Text>(left_text.as_slice(), 1)?;
-            let right_feed = opened::<Text>(right_text.as_slice(), 2)?;
-            print_report(rt, &mut Joined::new(left_feed, right_feed))
+            let left = opened::<Text>(left_text.as_slice(), 1)?;
+            let right = opened::<Text>(right_text.as_slice(), 2)?;
+            print_report(rt, &mut Joined::new(left.feed, right.feed))
         }
         _ => misused(rt),
     }

@@ -4,7 +4,7 @@ use crate::files::bytes_of;
 use crate::recording::opened;
 use crate::turns::taken_by;
 use crate::{Status, misused};
-use anyhow::anyhow;
+use anyhow::{Context, anyhow};
 use duty::verdicts::Verdict;
 use feed::inputs::Text;
 use roundup::rounding::{OutsideResults, round_up};
@@ -60,17 +60,15 @@ fn print_tally(
 fn tally_one(
     rt: &HostRuntime,
     book: &[u8],
-    log: &str,
+    path: &str,
     all: &mut Vec<Verdict>,
 ) -> anyhow::Result<Status> {
-    let text = bytes_of(rt, log)?;
-    let feed = opened::<Text>(text.as_slice(), 1)?;
-    let Some(run) = run_feed(rt, book, feed, text.len() / 35)? else {
-        return Err(anyhow!("the book is refused"));
-    };
+    let text = bytes_of(rt, path)?;
+    let log = opened::<Text>(text.as_slice(), 1)?;
+    let run = run_feed(rt, book, log)?.context("the book is refused")?;
     let start = all.len();
     all.extend_from_slice(run.pair.first.verdicts())?;
-    print_tally(rt, log, all.as_slice(), start)?;
+    print_tally(rt, path, all.as_slice(), start)?;
     tell_stop(rt, taken_by(run.turns.as_slice(), Side::First))
 }
 

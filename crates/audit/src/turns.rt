@@ -1,4 +1,6 @@
 // The turns of an audit: takes until the recording stops, then both pages.
+ghost use Rattle.std.specs.Prelude.{◌<◌};
+
 use auditor::answers::{Stop, Taken};
 use runs::calls::{Answer, Call, Side, Turn};
 use std::alloc::{AllocError, Global};
@@ -12,16 +14,18 @@ const SHEET_BYTES: usize = 19_968;
 const LOG_LINES: usize = 1_000_000;
 
 // Lines to a take: the most that one may ask for at the first auditor, and another count at the second.
-const FIRST_TAKE: u32 = 4_096;
-
-const SECOND_TAKE: u32 = 37;
+fn take_lines(side: Side) -> u32
+    ensures { 0 < result }
+{
+    match side {
+        Side::First => 4_096,
+        Side::Second => 37,
+    }
+}
 
 // One take from the side's first feed.
 pub fn take_turn(heap: Global, side: Side) -> Turn {
-    let count = match side {
-        Side::First => FIRST_TAKE,
-        Side::Second => SECOND_TAKE,
-    };
+    let count = take_lines(side);
     Turn {
         side,
         call: Call::Take { feed: 0, count },
@@ -33,11 +37,7 @@ pub fn take_turn(heap: Global, side: Side) -> Turn {
 // How many takes a side needs for so many items: one more than the items can fill, so that the last of them stops for
 // another reason than its count.
 pub fn takes_for(side: Side, items: usize) -> usize {
-    let items = items.min(LOG_LINES);
-    let full = match side {
-        Side::First => items / FIRST_TAKE as usize,
-        Side::Second => items / SECOND_TAKE as usize,
-    };
+    let full = items.min(LOG_LINES) / take_lines(side) as usize;
     full.saturating_add(1)
 }
 

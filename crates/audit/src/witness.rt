@@ -16,13 +16,9 @@ use std::alloc::AllocError;
 
 // The sound lines of a recording up to its first fault, as packed words.
 fn packed_words(rt: &HostRuntime, text: &[u8]) -> anyhow::Result<Vec<u32>> {
-    let mut feed = opened::<Text>(text, 2)?;
+    let mut feed = opened::<Text>(text, 2)?.feed;
     let mut words = Vec::new(rt.alloc());
-    // (A `while let` would need a measure, and a feed shows no count of what waits; it has fewer items than bytes.)
-    for _ in 0..text.len() {
-        let Some(item) = feed.look() else {
-            break;
-        };
+    while let Some(item) = feed.look() {
         let Item::Sound(line) = item else {
             break;
         };
@@ -79,14 +75,15 @@ pub fn compare_makes(rt: &HostRuntime, paths: &[String]) -> anyhow::Result<Statu
     let left = bytes_of(rt, left.as_str())?;
     let right = bytes_of(rt, right.as_str())?;
     let words = packed_words(rt, right.as_slice())?;
+    let text = opened::<Text>(left.as_slice(), 1)?;
     let packed = opened::<Packed>(words.as_slice(), 2)?;
-    let mut turns = mixed_turns(rt, left.len() / 35, words.len() / 4)?;
+    let mut turns = mixed_turns(rt, text.items, packed.items)?;
     let mut text_rack = Rack {
-        first: opened::<Text>(left.as_slice(), 1)?,
+        first: text.feed,
         rest: NoFeeds,
     };
     let mut packed_rack = Rack {
-        first: packed,
+        first: packed.feed,
         rest: NoFeeds,
     };
     let mut count = TurnCount::new();

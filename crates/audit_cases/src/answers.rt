@@ -1,5 +1,6 @@
 // What is printed of the turns of one auditor: their answers in one line, then the buffer of each page call.
 use auditor::answers::{Refusal, Stop, Taken};
+use feed::faults::FaultNumbers;
 use runs::calls::{Answer, Call, Side, Turn};
 use std::io::Write;
 use std::{fmt, io};
@@ -11,11 +12,12 @@ struct Printed<T>(T);
 // The number of a refusal, and of a fault also its station, item and field.
 impl fmt::Display for Printed<Refusal> {
     fn fmt<W: fmt::Write>(&self, f: &mut fmt::Formatter<W>) -> fmt::Result {
-        let numbers = self.0.numbers();
-        let number = numbers.number;
-        let station = numbers.station;
-        let item = numbers.item;
-        let field = numbers.field;
+        let FaultNumbers {
+            number,
+            station,
+            item,
+            field,
+        } = self.0.numbers();
         match self.0 {
             Refusal::Faulty(_) => write!(f, "{number}:{station}:{item}:{field}"),
             _ => write!(f, "{number}"),

@@ -10,7 +10,7 @@ use answers::print_side;
 use anyhow::{Context, anyhow};
 use book::refusals::{Fault, Refusal};
 use feed::cursors::InputFeed;
-use feed::inputs::{OpenRefusal, Text};
+use feed::inputs::Text;
 use feed::joins::Joined;
 use feed::recordings::Recording;
 use runs::calls::{Side, Turn};
@@ -21,8 +21,8 @@ use std::alloc::Global;
 use std::io::Read;
 use turns::turns_of;
 
-fn refused(_refusal: OpenRefusal) -> anyhow::Error {
-    anyhow!("a feed was refused")
+fn opened(log: &[u8], station: u16) -> anyhow::Result<Recording<'_, Text>> {
+    Recording::<Text>::open(log, station).map_err(|_| anyhow!("a feed was refused"))
 }
 
 // Makes the turns on the log: the first auditor draws on a text feed, the second on a joined feed.
@@ -33,9 +33,9 @@ fn audit(
     turns: &mut [Turn],
 ) -> anyhow::Result<Option<Refusal>> {
     let log = log.as_bytes();
-    let text = InputFeed::<Text>::open(log, 1, 1).map_err(refused)?;
-    let left = Recording::<Text>::open(log, 2).map_err(refused)?;
-    let right = Recording::<Text>::open(b"", 3).map_err(refused)?;
+    let text = InputFeed::<Text>::open(log, 1, 1).map_err(|_| anyhow!("a feed was refused"))?;
+    let left = opened(log, 2)?;
+    let right = opened(b"", 3)?;
     let mut first = Rack {
         first: text,
         rest: NoFeeds,

@@ -58,21 +58,28 @@ fn time_idle(rt: &HostRuntime, standing: &mut Standing, before: u32) -> anyhow::
     Ok(())
 }
 
-fn measure(rt: &HostRuntime, rules: usize, timed: bool) -> anyhow::Result<()> {
-    let mut standing = standing_of(rt, rules)?;
+// How many entries are open, and how long idle lines take, after so many lines.
+fn measure(
+    rt: &HostRuntime,
+    rules: usize,
+    standing: &mut Standing,
+    before: u32,
+    timed: bool,
+) -> anyhow::Result<()> {
     let entries = standing.sheet().len();
     println!(rt; "{rules} rules, {entries} entries")?;
     if timed {
-        time_idle(rt, &mut standing, 0)?;
-    }
-    let mut standing = standing_of(rt, rules)?;
-    let number = fill(&mut standing, rules)?;
-    let entries = standing.sheet().len();
-    println!(rt; "{rules} rules, {entries} entries")?;
-    if timed {
-        time_idle(rt, &mut standing, number)?;
+        time_idle(rt, standing, before)?;
     }
     Ok(())
+}
+
+// An almost empty and an almost full sheet.
+fn measure_both(rt: &HostRuntime, rules: usize, timed: bool) -> anyhow::Result<()> {
+    measure(rt, rules, &mut standing_of(rt, rules)?, 0, timed)?;
+    let mut standing = standing_of(rt, rules)?;
+    let before = fill(&mut standing, rules)?;
+    measure(rt, rules, &mut standing, before, timed)
 }
 
 // One of 16 rules of a large book.
@@ -85,8 +92,8 @@ fn large_text(rt: &HostRuntime) -> anyhow::Result<String> {
     Ok(rule.as_str().repeat(rt.alloc(), 16)?)
 }
 
-// How long reading that book takes, or how large it is. (The other bench has the same: a crate for both would make a
-// public call of it, whose contract could say nothing of time.)
+// How long reading that book takes, or how large it is. (The other bench has the same text and the same measure: a library
+// for both would promise that text by writing it again, and nothing of time.)
 fn reading(rt: &HostRuntime, timed: bool) -> anyhow::Result<()> {
     let text = large_text(rt)?;
     let len = text.len();
@@ -108,7 +115,7 @@ fn reading(rt: &HostRuntime, timed: bool) -> anyhow::Result<()> {
 fn run(rt: &HostRuntime) -> anyhow::Result<()> {
     let timed = env::args(rt)?.skip(1).count() > 0;
     for rules in [1usize, 4, 16] {
-        measure(rt, rules, timed)?;
+        measure_both(rt, rules, timed)?;
     }
     reading(rt, timed)
 }

@@ -24,6 +24,7 @@ pub struct Fault {
     pub item: u64,
 }
 
+// What waits in a feed. (It has a Result's shape, but a fault that waits is no failure of the feed that shows it.)
 #[derive(Clone, Copy)]
 pub enum Item {
     Sound(Line),

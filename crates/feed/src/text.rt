@@ -60,52 +60,51 @@ fn after_blanks(bytes: &[u8]) -> &[u8]
     &bytes[count_blanks(bytes)..]
 }
 
-// The number that the digits write.
-fn read_digits(digits: &[u8]) -> FieldText
-    requires { length digits.now ≤ 8 }
-    ensures { result ≡ digits_from 0 digits.now }
-{
-    let mut n: u32 = 0;
-    for digit in digits {
-        if !digit.is_ascii_digit() {
-            return FieldText::Malformed;
+// Bytes of one field's columns.
+#[derive(Clone, Copy)]
+struct Column<'a> {
+    bytes: &'a [u8],
+    ghost short: { length bytes.now ≤ 8 },
+}
+
+impl Column<'_> {
+    // The number that the bytes write, as digits.
+    fn digits(self) -> FieldText
+        ensures { result ≡ digits_from 0 self.entry.bytes.now }
+    {
+        let mut n: u32 = 0;
+        for digit in self.bytes {
+            if !digit.is_ascii_digit() {
+                return FieldText::Malformed;
+            }
+            n = n * 10 + u32::from(*digit - b'0');
         }
-        n = n * 10 + u32::from(*digit - b'0');
+        FieldText::Number(n)
     }
-    FieldText::Number(n)
-}
 
-// A number with no leading zero but in 0 itself, or nothing at all.
-fn read_numeral(digits: &[u8]) -> FieldText
-    requires { length digits.now ≤ 8 }
-    ensures { result ≡ numeral digits.now }
-{
-    match digits {
-        [] => FieldText::Blank,
-        [b'0', _, ..] => FieldText::Malformed,
-        _ => read_digits(digits),
+    // A number with no leading zero but in 0 itself, or nothing at all.
+    fn numeral(self) -> FieldText
+        ensures { result ≡ numeral self.entry.bytes.now }
+    {
+        match self.bytes {
+            [] => FieldText::Blank,
+            [b'0', _, ..] => FieldText::Malformed,
+            _ => self.digits(),
+        }
     }
-}
 
-// One blank or more, then a number up to the right end, or blanks alone.
-fn read_field(bytes: &[u8]) -> FieldText
-    requires { length bytes.now ≤ 8 }
-    ensures { result ≡ field_text bytes.now }
-{
-    match bytes {
-        [b' ', rest @ ..] => read_numeral(after_blanks(rest)),
-        _ => FieldText::Malformed,
+    // One blank or more, then a number up to the right end, or blanks alone.
+    fn read(self) -> FieldText
+        ensures { result ≡ field_text self.entry.bytes.now }
+    {
+        match self.bytes {
+            [b' ', rest @ ..] => Column {
+                bytes: after_blanks(rest),
+            }
+            .numeral(),
+            _ => FieldText::Malformed,
+        }
     }
-}
-
-// What a field's columns hold in an item of text.
-fn columns(item: &[u8], field: Field) -> FieldText
-    requires { 35 ≤ length item.now }
-    ensures { result ≡ field_text (column field item.now) }
-{
-    let from = start_of(field);
-    let to = from + width_of(field);
-    read_field(&item[from..to])
 }
 
 // A field's value; only time and kind may not be blank.
@@ -122,28 +121,45 @@ fn settle(field: Field, text: FieldText) -> Option<u32>
     }
 }
 
-// A field's value in an item of text, or the fault that names it.
-#[tactic(auto, unfolding(crate::specs::Text::value_in))]
-fn value_in(item: &[u8], field: Field) -> Result<u32, FaultKind>
-    requires { 35 ≤ length item.now }
-    ensures { result ≡ value_in field item.now }
-{
-    settle(field, columns(item, field)).ok_or(FaultKind::Malformed(field))
+// An item of text that has the bytes of all six fields.
+#[derive(Clone, Copy)]
+struct Row<'a> {
+    bytes: &'a [u8],
+    ghost whole: { 35 ≤ length bytes.now },
 }
 
-// The line of the six fields, or the lowest malformed one.
-#[tactic(auto, unfolding(crate::specs::Text::text_fields))]
-fn read_fields(item: &[u8]) -> Result<Line, FaultKind>
-    requires { 35 ≤ length item.now }
-    ensures { result ≡ text_fields item.now }
-{
-    let time = value_in(item, Field::Time)?;
-    let kind = value_in(item, Field::Kind)?;
-    let machine = value_in(item, Field::Machine)?;
-    let crew = value_in(item, Field::Crew)?;
-    let run = value_in(item, Field::Run)?;
-    let reading = value_in(item, Field::Reading)?;
-    Line::new(time, kind, machine, crew, run, reading).map_err(FaultKind::Malformed)
+impl Row<'_> {
+    // What a field's columns hold.
+    fn columns(self, field: Field) -> FieldText
+        ensures { result ≡ field_text (column field self.entry.bytes.now) }
+    {
+        let from = start_of(field);
+        let to = from + width_of(field);
+        let bytes = &self.bytes[from..to];
+        Column { bytes }.read()
+    }
+
+    // A field's value, or the fault that names it.
+    #[tactic(auto, unfolding(crate::specs::Text::value_in))]
+    fn value_in(self, field: Field) -> Result<u32, FaultKind>
+        ensures { result ≡ value_in field self.entry.bytes.now }
+    {
+        settle(field, self.columns(field)).ok_or(FaultKind::Malformed(field))
+    }
+
+    // The line of the six fields, or the lowest malformed one.
+    #[tactic(auto, unfolding(crate::specs::Text::text_fields))]
+    fn fields(self) -> Result<Line, FaultKind>
+        ensures { result ≡ text_fields self.entry.bytes.now }
+    {
+        let time = self.value_in(Field::Time)?;
+        let kind = self.value_in(Field::Kind)?;
+        let machine = self.value_in(Field::Machine)?;
+        let crew = self.value_in(Field::Crew)?;
+        let run = self.value_in(Field::Run)?;
+        let reading = self.value_in(Field::Reading)?;
+        Line::new(time, kind, machine, crew, run, reading).map_err(FaultKind::Malformed)
+    }
 }
 
 // The line that an item of text is, or its fault. Of a longer slice the first 35 bytes are read.
@@ -156,5 +172,5 @@ pub fn read_text(item: &[u8]) -> Result<Line, FaultKind>
     if item[34] != b'\n' {
         return Err(FaultKind::NoLineFeed);
     }
-    read_fields(item)
+    Row { bytes: item }.fields()
 }

@@ -25,7 +25,7 @@ impl fmt::Display for Time {
 
 // The field that a fault names, by number and name.
 #[derive(Clone, Copy)]
-struct Named(Option<Field>);
+pub struct Named(pub Option<Field>);
 
 impl fmt::Display for Named {
     ghost output = { λ named. Some (field_text named.0) };

@@ -4,13 +4,14 @@
 use anyhow::anyhow;
 use feed::cursors::InputFeed;
 use feed::feeds::Feed;
-use feed::inputs::{Encoding, OpenRefusal, Packed, Text};
+use feed::inputs::{Encoding, Packed, Text};
 use feed::joins::Joined;
 use report::rows::{fault_row, summary};
 use report::surveys::survey;
 use std::fs;
 
-// The numbers of a text, parted by white space. (`feed_cases` has the same chain; a crate for it would be no plainer.)
+// The numbers of a text, parted by white space. (`feed_cases` has the same chain: a library for it would need a
+// definition of parsing, a planted bug and a test.)
 fn numbers(rt: &HostRuntime, path: &str) -> anyhow::Result<Vec<u32>> {
     let text = fs::read_to_string(rt, path)?;
     text.as_str()
@@ -19,15 +20,11 @@ fn numbers(rt: &HostRuntime, path: &str) -> anyhow::Result<Vec<u32>> {
         .try_collect(rt.alloc())
 }
 
-fn refused(_refusal: OpenRefusal) -> anyhow::Error {
-    anyhow!("a feed was refused")
-}
-
 // The report on all that waits in a joined feed.
 fn reported(rt: &HostRuntime, text: &[u8], words: &[u32]) -> anyhow::Result<()> {
     println!(rt; "report on a joined feed")?;
-    let a = InputFeed::<Text>::open(text, 1, 1).map_err(refused)?;
-    let b = InputFeed::<Packed>::open(words, 2, 1).map_err(refused)?;
+    let a = InputFeed::<Text>::open(text, 1, 1).map_err(|_| anyhow!("a feed was refused"))?;
+    let b = InputFeed::<Packed>::open(words, 2, 1).map_err(|_| anyhow!("a feed was refused"))?;
     let report = survey(rt.alloc(), &mut Joined::new(a, b))?;
     rt.print(summary(rt.alloc(), &report)?)?;
     for fault in report.faults() {

@@ -89,7 +89,7 @@ fn token_at<'a>(text: &'a [u8], at: usize) -> Token<'a>
     if is_digit(rest[0]) {
         return Token::Number(&rest[..run_len(rest, is_digit)]);
     }
-    // (No `map_or`: a variant that borrows the text is not passed as a function.)
+    // (No `map_or`: the checker refuses a variant as a function where its enum may borrow the text.)
     match symbol_at(rest) {
         Some(symbol) => Token::Mark(symbol),
         None => Token::Stray,

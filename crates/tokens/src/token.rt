@@ -24,6 +24,7 @@ pub enum Token<'a> {
     Mark(Symbol),
     // a byte that no token has
     Stray,
+    // the end of the text (a token like another, as the grammar has it: readers ask for it by name)
     End,
 }
 

@@ -1,6 +1,6 @@
 use Rattle.std.proofs.Common.{arith}
 use Rattle.feed.proofs.Columns.{small}
-use Rattle.feed.proofs.text.read_digits.Goals as goal
+use Rattle.feed.proofs.text.Column.digits.Goals as goal
 
 pub overflow_mul-n : goal.overflow_mul-n
 overflow_mul-n c = omega (arith, small c.loop-digit.digit-index c.loop-digit.n (omega arith) c.loop-digit.invariant.small)
