@@ -1,5 +1,5 @@
 -- What one more line does to what is kept of a log.
-use Rattle.std.proofs.Common.{◌≡◌, ℕ, ◌+◌, ◌<◌, ◌≤◌, List, [], ◌∷◌, ◌++◌, length, Some, None, sym, refl, ap, ◌∙◌, arith, length-append, le-ltb, lt-ltb, le-leb}
+use Rattle.std.proofs.Common.{◌≡◌, ℕ, ◌+◌, ◌<◌, ◌≤◌, List, [], ◌∷◌, ◌++◌, length, None, sym, refl, ap, ◌∙◌, arith, length-append, le-ltb, le-leb}
 use borrow.Author.Tests.{lt-leb}
 use Rattle.feed.specs.declared.faults.Item.{Item}
 use Rattle.feed.specs.declared.faults.Item.TheVariants.{Sound}
@@ -11,7 +11,6 @@ use Rattle.duty.specs.Verdicts.{verdicts}
 use Rattle.duty.specs.declared.standings.Standing.{Standing}
 use Rattle.auditor.specs.Account.{latest, item_refusal, refusal}
 use Rattle.auditor.specs.Held.{Held}
-use Rattle.auditor.specs.declared.answers.Refusal.TheVariants.{Backdated, SheetFull, LogFull}
 
 latest-more : (log : List Line) (l : Line) → latest (log ++ (l ∷ [])) ≡ l.time
 latest-more [] l = refl
@@ -40,20 +39,8 @@ held-still s s' n t log h same kept = record {
 }
 
 module _ (rs : List Rule) (log : List Line) (l : Line) where
-  pub backdated : l.time < latest log → item_refusal rs log (Sound l) ≡ Some Backdated
-  backdated lt = rw (lt-ltb l.time (latest log) lt)
-
   pub not_full : latest log ≤ l.time → Fits (book_sheet rs (log ++ (l ∷ []))) → item_refusal rs log (Sound l) ≡ None
   not_full le fit = rw (le-ltb l.time (latest log) le, le-leb (length (book_sheet rs (log ++ (l ∷ [])))) 256 fit)
-
-  pub sheet-full : latest log ≤ l.time → (Fits (book_sheet rs (log ++ (l ∷ []))) → ⊥) → item_refusal rs log (Sound l) ≡ Some SheetFull
-  sheet-full le over =
-      let n = length (book_sheet rs (log ++ (l ∷ []))) in
-      let long : 256 < n = omega arith in
-      rw (le-ltb l.time (latest log) le, lt-leb n 256 long)
-
-pub log-full : (rs : List Rule) (log : List Line) (x : Item) → 1000000 ≤ length log → refusal rs log x ≡ Some LogFull
-log-full rs log x le = rw (le-leb 1000000 (length log) le)
 
 pub log_open : (rs : List Rule) (log : List Line) (x : Item) → length log < 1000000 → refusal rs log x ≡ item_refusal rs log x
 log_open rs log x lt = rw (lt-leb 1000000 (length log) lt)

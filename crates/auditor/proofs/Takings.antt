@@ -1,18 +1,17 @@
 -- What a turn of a take keeps.
-use Rattle.std.proofs.Common.{◌≡◌, ℕ, ◌+◌, ◌<◌, ◌≤◌, true, false, List, [], ◌∷◌, ◌++◌, map, length, take, Some, None, Ok, Err, Result, sym, refl, ap, ◌∙◌, subst, append_assoc, append-nil, arith, length-append, take_all, le-leb}
+use Rattle.std.proofs.Common.{◌≡◌, ℕ, ◌+◌, ◌<◌, ◌≤◌, List, [], ◌∷◌, ◌++◌, map, length, take, Some, None, Ok, Err, Result, sym, refl, ap, ◌∙◌, subst, append_assoc, append-nil, arith, length-append, take_all}
 use lib.Seq.{take-append-le}
-use Rattle.std.specs.Option.{option_map}
 use Rattle.feed.specs.Waiting.{first, later}
 use Rattle.feed.specs.declared.faults.Item.{Item}
 use Rattle.feed.specs.declared.faults.Item.TheVariants.{Sound, Faulty}
 use Rattle.feed.specs.declared.lines.Line.{Line}
 use Rattle.book.specs.Rules.{Rule}
-use Rattle.auditor.specs.Account.{count_in, refusal, stop_at, acceptable, Drawn, drawing, takes}
+use Rattle.auditor.specs.Account.{refusal, stop_at, acceptable, Drawn, drawing, takes}
 use Rattle.auditor.specs.Holds.{Holds, Took}
 use Rattle.auditor.specs.Steps.{AdmitsLine, Grown, Admits, Moved}
 use Rattle.auditor.specs.declared.answers.Refusal.{Refusal}
 use Rattle.auditor.specs.declared.answers.Stop.{Stop}
-use Rattle.auditor.specs.declared.answers.Stop.TheVariants.{Done, Refused}
+use Rattle.auditor.specs.declared.answers.Stop.TheVariants.{Done}
 use Rattle.auditor.specs.declared.auditors.Auditor.{Auditor}
 use Rattle.auditor.proofs.Grows.{log_open}
 use Rattle.auditor.proofs.Accounts.{none_more, one_more, left_is, drawn-done, drawn-stopped, granted}
@@ -29,15 +28,6 @@ map-append : {A B : Type 0} (f : A → B) (xs ys : List A) → map f (xs ++ ys) 
 map-append f [] ys = refl
 map-append f (x ∷ xs) ys = ap (λ l. f x ∷ l) (map-append f xs ys)
 
-pub begun : (rs : List Rule) (log : List Line) (w : List Item) (a : Auditor) → Holds rs log a → Sofar rs log w 0 a w
-begun rs log w a h = record {
-  lines = [];
-  long = refl;
-  front = refl;
-  holds = subst (λ l. Holds rs l a) (sym (append-nil log)) h;
-  same = ap (λ l. acceptable rs l w) (sym (append-nil log));
-}
-
 module _ (rs : List Rule) (c : ℕ) (log : List Line) (w : List Item) (n : ℕ) (a : Auditor) (w' : List Item) (h : Sofar rs log w n a w') where
   -- these lines are what the take takes
   ended : (s : Stop) (a' : Auditor) (w'' : List Item) → 1 ≤ c → c ≤ 4096 → take c (acceptable rs log w) ≡ h.lines → (drawing rs c log w h.lines).stop ≡ s → Holds rs (log ++ h.lines) a' → w'' ≡ w' → Took rs log (takes rs c log w) (record { lines = n; stop = s }) a' w''
@@ -50,12 +40,13 @@ module _ (rs : List Rule) (c : ℕ) (log : List Line) (w : List Item) (n : ℕ) 
         left = same ∙ sym (left_is rs c log w h.lines w' h.front) ∙ ap (λ (x : Drawn). x.left) (sym d);
       }
 
-  pub all_taken : 1 ≤ c → c ≤ 4096 → n ≡ c → Took rs log (takes rs c log w) (record { lines = n; stop = Done }) a w'
+  pub all_taken : 1 ≤ c → c ≤ 4096 → n ≡ c → Took rs log (takes rs c log w) (record { lines = c; stop = Done }) a w'
   all_taken lo hi e =
       let more = acceptable rs (log ++ h.lines) w' in
       let le : c ≤ length h.lines = omega (arith, h.long) in
       let ge : length h.lines ≤ c = omega (arith, h.long) in
-      ended Done a w' lo hi (ap (take c) h.same ∙ take-append-le c h.lines more le ∙ take_all c h.lines ge) (drawn-done rs c log w h.lines w' h.front (h.long ∙ e)) h.holds refl
+      subst (λ k. Took rs log (takes rs c log w) (record { lines = k; stop = Done }) a w') e
+      (ended Done a w' lo hi (ap (take c) h.same ∙ take-append-le c h.lines more le ∙ take_all c h.lines ge) (drawn-done rs c log w h.lines w' h.front (h.long ∙ e)) h.holds refl)
 
   pub stopped : (s : Stop) (a' : Auditor) (w'' : List Item) → 1 ≤ c → c ≤ 4096 → n < c → stop_at rs (log ++ h.lines) w' ≡ Some s → Holds rs (log ++ h.lines) a' → w'' ≡ w' → Took rs log (takes rs c log w) (record { lines = n; stop = s }) a' w''
   stopped s a' w'' lo hi lt e holds same =
@@ -85,10 +76,6 @@ module _ (rs : List Rule) (log : List Line) where
   admits_sound l (Ok u) a lt h = (log_open rs log (Sound l) lt ∙ h.0, h.1)
   admits_sound l (Err x) a lt h = (log_open rs log (Sound l) lt ∙ h.0, h.1)
 
-  pub stops_at : (w : List Item) (x : Item) (y : Refusal) → Some x ≡ first w → refusal rs log x ≡ Some y → stop_at rs log w ≡ Some (Refused y)
-  stops_at [] x y e f = let z : ◌≡◌ {A = ℕ} 0 1 = cc in absurd (omega arith)
-  stops_at (v ∷ w) x y e f = let same : v ≡ x = cc in ap (λ i. option_map Refused (refusal rs log i)) same ∙ ap (option_map Refused) f
-
   pub moves : (w w' : List Item) (x : Item) (a : Auditor) → Some x ≡ first w → w' ≡ later w → refusal rs log x ≡ None → Grown rs log x a → Moved rs log w a w'
   moves [] w' x a e f free h = let z : ◌≡◌ {A = ℕ} 0 1 = cc in absurd (omega arith)
   moves (v ∷ w) w' (Faulty x) a e f free h = absurd h
@@ -98,10 +85,3 @@ module _ (rs : List Rule) (log : List Line) where
     free = free;
     holds = h;
   }
-
--- a count that is in bounds is not refused
-pub in_bounds : {X : Type 0} (c : ℕ) → 1 ≤ c → c ≤ 4096 → count_in c ≡ false → X
-in_bounds c lo hi e =
-    let both : count_in c ≡ true = rw (le-leb 1 c lo, le-leb c 4096 hi) in
-    let z : ◌≡◌ {A = ℕ} 0 1 = cc in
-    absurd (omega arith)

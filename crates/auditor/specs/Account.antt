@@ -1,5 +1,5 @@
 -- The plain account of a take and a skip: by the log and what waits, and by no state of an auditor. Assumes nothing.
-use Rattle.std.specs.Prelude.{◌≡◌, ℕ, ◌<◌, ◌≤◌, Bool, cond, ◌&&◌, List, [], ◌∷◌, ◌++◌, map, length, take, drop, Some, None, Ok, Err, Option, Result, ◌==◌, nat_le, nat_lt}
+use Rattle.std.specs.Prelude.{◌≡◌, ℕ, ◌<◌, ◌≤◌, Bool, if◌then◌else◌, ◌&&◌, List, [], ◌∷◌, ◌++◌, map, length, take, drop, Some, None, Ok, Err, Option, Result, ◌==◌, nat_le, nat_lt}
 use Rattle.std.specs.Option.{option_map, unwrap_or}
 use Rattle.feed.specs.declared.faults.Item.{Item}
 use Rattle.feed.specs.declared.faults.Item.TheVariants as item
@@ -25,11 +25,11 @@ fits rs log = nat_le (length (book_sheet rs log)) 256
 abbrev pub item_refusal : List Rule → List Line → Item → Option Refusal
 item_refusal rs log (item.Faulty x) = Some (Faulty x)
 item_refusal rs log (item.Sound l) =
-    cond (nat_lt l.time (latest log)) (Some Backdated) (cond (fits rs (log ++ (l ∷ []))) None (Some SheetFull))
+    if nat_lt l.time (latest log) then Some Backdated else (if fits rs (log ++ (l ∷ [])) then None else Some SheetFull)
 
 -- the same, where a full log takes no item
 abbrev pub refusal : List Rule → List Line → Item → Option Refusal
-refusal rs log x = cond (nat_le 1000000 (length log)) (Some LogFull) (item_refusal rs log x)
+refusal rs log x = if nat_le 1000000 (length log) then Some LogFull else item_refusal rs log x
 
 -- why a take stops before the first of the items that wait, if it does
 abbrev pub stop_at : List Rule → List Line → List Item → Option Stop
@@ -58,7 +58,7 @@ abbrev pub drawing : List Rule → ℕ → List Line → List Item → List Line
 drawing rs c log w ls =
     record {
       lines = ls;
-      stop = cond (length ls == c) Done (unwrap_or (stop_at rs (log ++ ls) (drop (length ls) w)) Done);
+      stop = if length ls == c then Done else unwrap_or (stop_at rs (log ++ ls) (drop (length ls) w)) Done;
       left = drop (length ls) w;
     }
 
@@ -69,7 +69,7 @@ count_in c = nat_le 1 c && nat_le c 4096
 -- a take of c lines takes the longest acceptable beginning, at most c; a count outside 1 to 4,096 is refused
 abbrev pub takes : List Rule → ℕ → List Line → List Item → Drawn
 takes rs c log w =
-    cond (count_in c) (drawing rs c log w (take c (acceptable rs log w))) (record { lines = []; stop = Refused Count; left = w })
+    if count_in c then drawing rs c log w (take c (acceptable rs log w)) else record { lines = []; stop = Refused Count; left = w }
 
 -- The same in words. The lines leave the front of what waits, at most c; no take would stop before any of them. It is done exactly
 -- when they are c; else it stops for what stops a take there.

@@ -1,8 +1,12 @@
 // What the calls on an auditor answer.
-ghost use Rattle.std.specs.Prelude.{◌≡◌};
+ghost use Rattle.std.specs.Prelude.{◌≡◌, Some};
 ghost use Rattle.auditor.specs.Answers.{alone as alone_numbers, refusal_numbers, refusal_words, stop_refusal};
+ghost use Rattle.auditor.specs.declared.answers.Refusal.TheVariants.{SheetFull};
+ghost use Rattle.auditor.specs.declared.answers.Stop.TheVariants.{Refused};
 
+use duty::standings;
 use feed::faults::{Fault, FaultNumbers};
+use std::fmt;
 
 // Why a call was refused.
 #[derive(Clone, Copy)]
@@ -36,7 +40,7 @@ fn alone(number: u8) -> FaultNumbers
 }
 
 impl Refusal {
-    // The refusal by its numbers.
+    // The refusal by its numbers. (Those who are told of refusals know them by these.)
     pub fn numbers(self) -> FaultNumbers
         ensures { result ≡ refusal_numbers self }
     {
@@ -67,6 +71,22 @@ impl Refusal {
     }
 }
 
+impl fmt::Display for Refusal {
+    ghost output = { λ refusal. Some (refusal_words refusal) };
+
+    fn fmt<W: fmt::Write>(&self, f: &mut fmt::Formatter<W>) -> fmt::Result {
+        f.write_str(self.words())
+    }
+}
+
+impl From<standings::SheetFull> for Refusal {
+    ghost from_gives = { λ _ r. r ≡ SheetFull };
+
+    fn from(_full: standings::SheetFull) -> Refusal {
+        Refusal::SheetFull
+    }
+}
+
 // Why a take stopped: it has taken what was asked, nothing waits, or it was refused.
 #[derive(Clone, Copy)]
 pub enum Stop {
@@ -81,10 +101,17 @@ impl Stop {
         ensures { result ≡ stop_refusal self }
     {
         match self {
-            Stop::Done => None,
-            Stop::Dry => None,
+            Stop::Done | Stop::Dry => None,
             Stop::Refused(refusal) => Some(refusal),
         }
+    }
+}
+
+impl From<Refusal> for Stop {
+    ghost from_gives = { λ refusal stop. stop ≡ Refused refusal };
+
+    fn from(refusal: Refusal) -> Stop {
+        Stop::Refused(refusal)
     }
 }
 

@@ -8,8 +8,8 @@ use feed::feeds::Feed;
 
 // Drops the first waiting item, or refuses where nothing waits.
 pub fn skip<F: Feed>(feed: &mut F) -> Result<(), Refusal>
-    ensures answer { result ≡ skipping (F.Feed.waiting feed.old) }
-    ensures after { F.Feed.waiting feed.new ≡ later (F.Feed.waiting feed.old) }
+    ensures answer { result ≡ skipping (F.waiting feed.old) }
+    ensures after { F.waiting feed.new ≡ later (F.waiting feed.old) }
 {
     if feed.drop_first() {
         Ok(())

@@ -1,32 +1,29 @@
 -- What a book's tokens say of its size: its rules, its nodes, its nesting and its numbers. Assumes nothing.
-use Rattle.std.proofs.Common.{◌≡◌, ℕ, ◌+◌, ◌≤◌, max, Bool, true, false, cond, ◌||◌, ltb, leb, List, [], ◌∷◌, ◌++◌, length, Some, None, codes, refl, subst, arith, ltb-false, leb-true}
+use Rattle.std.proofs.Common.{◌≡◌, ℕ, ◌+◌, ◌≤◌, max, Bool, true, ◌||◌, nat_lt, List, [], ◌∷◌, ◌++◌, length, Some, None, nat_le, Option, refl, subst, arith, ltb-false, leb-true, Ok, Err}
 use mathlib.Core.Logic.{∥∥₁_elim}
 use native.Mathlib.Bridge.{le_prop}
 use Rattle.std.proofs.lemmas.Bool.{or_parts, cond_both}
-use Rattle.book.specs.declared.refusals.Reason.TheVariants.{PastLimit, BadNumber, NoToken}
-use Rattle.feed.specs.declared.fields.Field.{Field}
-use Rattle.feed.specs.declared.fields.Field.TheVariants.{Time, Kind, Machine, Crew, Run, Reading}
-use Rattle.book.specs.declared.terms.Letter.TheVariants as letters
-use Rattle.book.specs.declared.terms.Letter.{Letter}
-use Rattle.book.specs.declared.terms.DutyKind.TheVariants.{Must, MustNot}
-use Rattle.book.specs.declared.terms.TriggerKind.TheVariants.{Each, Once}
-use Rattle.book.specs.declared.terms.BracketKind.TheVariants as bracket-kind
+use Rattle.std.proofs.lemmas.List.Sums.{AllPass-from_list_all}
+use Rattle.std.proofs.lemmas.Map.Entries.{All-lookup}
+use Rattle.std.specs.Option.{IfSome, ok_or}
+use Rattle.std.specs.Str.{bytes_eq}
+use Rattle.book.specs.declared.refusals.Reason.TheVariants.{NoToken}
 use Rattle.book.specs.declared.terms.Condition.{Condition}
 use Rattle.book.specs.declared.terms.Part.{Part}
 use Rattle.book.specs.declared.terms.Part.TheVariants as part
 use Rattle.book.specs.declared.terms.Sum.{Sum}
 use Rattle.book.specs.declared.terms.Sum.TheVariants.{One, Two, Three}
-use Rattle.book.specs.declared.sets.Letters.{Letters}
 use Rattle.book.specs.declared.terminals.Terminal.{Terminal}
 use Rattle.book.specs.declared.terminals.Terminal.TheVariants as terminal
 use Rattle.tokens.specs.declared.token.Symbol.{Symbol}
 use Rattle.tokens.specs.declared.token.Symbol.TheVariants as symbols
-use Rattle.tokens.specs.Text.{Stretch, word, number, symbol, stray, end, Placed, stretches, same}
+use Rattle.tokens.specs.Text.{Stretch, word, number, symbol, stray, end, Placed, stretches}
 use Rattle.book.specs.Rules.{Pattern, never, lines, Rule, duty, trigger, bracket}
 use Rattle.book.specs.Sizes.{nodes, all_nodes, depth, deepest, part_number, sum_number, conditions_number, pattern_number, rule_number, largest, WithinLimits}
-use Rattle.book.specs.Grammar.{starts, Item, Spot, size, rule_items, book_items, deeper, later, top, pattern_items, part_items, sum_items, condition_items, conditions_items, if_items, binder_items, items}
-use Rattle.book.specs.Sets.{with_binders}
-use Rattle.book.specs.Text.{Got, good, bad, letter_of, field_of, word_of, value_from, leading_zero, number_of, symbol_terminal, meaning, meanings}
+use Rattle.book.specs.Grammar.{starts, Item, Spot, rule_items, book_items, deeper, later, top, pattern_items, part_items, sum_items, condition_items, conditions_items, if_items, binder_items, items}
+use Rattle.book.specs.Sets.{Letters, with_binders}
+use Rattle.book.specs.Text.{Got, words, word_of, value_from, leading_zero, number_of, symbol_terminal, meaning, meanings}
+use Rattle.book.proofs.Compose.{within_limit}
 use Rattle.book.specs.Faults.{role_fault, AllSound, gots, meant, Accepted}
 
 sound-left : (is js : List Item) → AllSound (is ++ js) → AllSound is
@@ -43,28 +40,19 @@ pub record Started (k n d : ℕ) : Type 0 where
   pub nodes : n ≤ 64
   pub inside : d ≤ 8
 
-not_past : (b : Bool) → cond b (Some PastLimit) None ≡ None → b ≡ false
-not_past true e = absurd (let z : ◌≡◌ {A = ℕ} 0 1 = cc in omega arith)
-not_past false e = refl
-
 begun : (k n d : ℕ) → role_fault (starts k n d) ≡ None → Started k n d
 begun k n d e =
-    let none = not_past (ltb 16 k || ltb 64 n || ltb 8 d) e in
-    let most = or_parts (ltb 16 k || ltb 64 n) (ltb 8 d) none in
-    let two = or_parts (ltb 16 k) (ltb 64 n) most.0 in
+    let none = within_limit (nat_lt 16 k || nat_lt 64 n || nat_lt 8 d) None e in
+    let most = or_parts (nat_lt 16 k || nat_lt 64 n) (nat_lt 8 d) none in
+    let two = or_parts (nat_lt 16 k) (nat_lt 64 n) most.0 in
     record { rules = ltb-false 16 k two.0; nodes = ltb-false 64 n two.1; inside = ltb-false 8 d most.1 }
-
-size-nodes : (r : Rule) → size r ≡ nodes r
-size-nodes (duty k p q) = refl
-size-nodes (trigger k p q r) = omega (arith, size-nodes r)
-size-nodes (bracket k r t) = omega (arith, size-nodes r, size-nodes t)
 
 pub record RuleWithin (s : Spot) (r : Rule) : Type 0 where
   pub rules : s.rule ≤ 16
   pub nodes : s.nodes + nodes r ≤ 64
   pub inside : s.around + depth r ≤ 8
 
-rule-within : (r : Rule) (s : Spot) → AllSound (rule_items s r) → RuleWithin s r
+pub rule-within : (r : Rule) (s : Spot) → AllSound (rule_items s r) → RuleWithin s r
 rule-within (duty k p q) s h = let b = begun _ _ _ h.0 in record { rules = b.rules; nodes = b.nodes; inside = b.inside }
 rule-within (trigger k p q r) s h =
     let b = begun _ _ _ h.0 in
@@ -75,8 +63,8 @@ rule-within (bracket k r t) s h =
     let b = begun _ _ _ h.0 in
     let one = rule-within r _ (sound-left (rule_items (deeper s s.bound) r) _ h.1) in
     let rest = (sound-right (rule_items (deeper s s.bound) r) _ h.1).1 in
-    let two = rule-within t _ (sound-left (rule_items (later (deeper s s.bound) (size r)) t) _ rest) in
-    record { rules = b.rules; nodes = omega (arith, two.nodes, size-nodes r); inside = omega (arith, one.inside, two.inside) }
+    let two = rule-within t _ (sound-left (rule_items (later (deeper s s.bound) (nodes r)) t) _ rest) in
+    record { rules = b.rules; nodes = omega (arith, two.nodes); inside = omega (arith, one.inside, two.inside) }
 
 pub record BookWithin (k n : ℕ) (rs : List Rule) : Type 0 where
   pub rules : k + length rs ≤ 16
@@ -88,104 +76,47 @@ book-within k n [] hk hn h = record { rules = omega arith; nodes = omega arith; 
 book-within k n (r ∷ rs) hk hn h =
     let one = rule-within r (top (k + 1) n) (sound-left (rule_items (top (k + 1) n) r) _ h) in
     let rest = (sound-right (rule_items (top (k + 1) n) r) _ h).1 in
-    let same = size-nodes r in
-    let more = book-within (k + 1) (n + size r) rs one.rules (omega (arith, one.nodes)) rest in
+    let more = book-within (k + 1) (n + nodes r) rs one.rules (omega (arith, one.nodes)) rest in
     record { rules = omega (arith, more.rules); nodes = omega (arith, more.nodes); inside = omega (arith, one.inside, more.inside) }
 
 -- a number of a book's text is at most 9,999,999
-abbrev SmallToken : Terminal → Type 0
-SmallToken (terminal.Numeral n) = n ≤ 9999999
-SmallToken (terminal.Duty k) = Unit {0}
-SmallToken terminal.Before = Unit {0}
-SmallToken (terminal.Trigger k) = Unit {0}
-SmallToken terminal.Until = Unit {0}
-SmallToken terminal.Then = Unit {0}
-SmallToken (terminal.Joint k) = Unit {0}
-SmallToken terminal.Never = Unit {0}
-SmallToken terminal.If = Unit {0}
-SmallToken (terminal.Named f) = Unit {0}
-SmallToken (terminal.Lettered l) = Unit {0}
-SmallToken (terminal.Compare c) = Unit {0}
-SmallToken terminal.Plus = Unit {0}
-SmallToken terminal.Times = Unit {0}
-SmallToken terminal.Comma = Unit {0}
-SmallToken terminal.Semicolon = Unit {0}
-SmallToken terminal.Open = Unit {0}
-SmallToken terminal.Close = Unit {0}
-SmallToken terminal.OpenSquare = Unit {0}
-SmallToken terminal.CloseSquare = Unit {0}
-SmallToken terminal.End = Unit {0}
+abbrev is_small : Terminal → Bool
+is_small (terminal.Numeral n) = nat_le n 9999999
+is_small _ = true
 
-abbrev SmallGot : Got → Type 0
-SmallGot (good t) = SmallToken t
-SmallGot (bad r) = Unit {0}
+abbrev is_small_got : Got → Bool
+is_small_got (Ok t) = is_small t
+is_small_got (Err r) = true
 
-record Small (g : Got) : Type 0 where
-  is : SmallGot g
+small_known : (o : Option Terminal) → IfSome o (λ t. is_small t ≡ true) → is_small_got (ok_or o NoToken) ≡ true
+small_known None h = refl
+small_known (Some t) h = h
 
-small_cond : (b : Bool) (x y : Got) → Small x → Small y → Small (cond b x y)
-small_cond true x y h g = h
-small_cond false x y h g = g
-
-small_other : {t : Terminal} → SmallToken t → Small (good t)
-small_other h = record { is = h }
-
-none : Small (bad NoToken)
-none = record { is = tt }
-
-letter : (b : Bool) (l : Letter) (y : Got) → Small y → Small (cond b (good (terminal.Lettered l)) y)
-letter b l y h = small_cond b _ y (record { is = tt }) h
-
-small_letter : (w : List ℕ) → Small (letter_of w)
-unfolding letter_of
-small_letter w =
-    letter (same w (codes "A")) letters.A _ (letter (same w (codes "B")) letters.B _ (letter (same w (codes "C")) letters.C _ (letter (same w (codes "D")) letters.D _ (letter (same w (codes "E")) letters.E _ (letter (same w (codes "F")) letters.F _ (letter (same w (codes "G")) letters.G _ (letter (same w (codes "H")) letters.H _ none)))))))
-
-field : (b : Bool) (f : Field) (y : Got) → Small y → Small (cond b (good (terminal.Named f)) y)
-field b f y h = small_cond b _ y (record { is = tt }) h
-
-small_field : (w : List ℕ) → Small (field_of w)
-unfolding field_of
-small_field w =
-    field (same w (codes "time")) Time _ (field (same w (codes "kind")) Kind _ (field (same w (codes "machine")) Machine _ (field (same w (codes "crew")) Crew _ (field (same w (codes "run")) Run _ (field (same w (codes "reading")) Reading _ (small_letter w))))))
-
-plainly : (b : Bool) (t : Terminal) (y : Got) → SmallToken t → Small y → Small (cond b (good t) y)
-plainly b t y p h = small_cond b _ y (record { is = p }) h
-
-small_word : (w : List ℕ) → Small (word_of w)
+-- no word is a number
+small_word : (w : List ℕ) → is_small_got (word_of w) ≡ true
 unfolding word_of
-small_word w =
-    plainly (same w (codes "must")) (terminal.Duty Must) _ tt (plainly (same w (codes "mustnot")) (terminal.Duty MustNot) _ tt (plainly (same w (codes "before")) terminal.Before _ tt (plainly (same w (codes "each")) (terminal.Trigger Each) _ tt (plainly (same w (codes "once")) (terminal.Trigger Once) _ tt (plainly (same w (codes "until")) terminal.Until _ tt (plainly (same w (codes "then")) terminal.Then _ tt (plainly (same w (codes "else")) (terminal.Joint bracket-kind.Else) _ tt (plainly (same w (codes "and")) (terminal.Joint bracket-kind.And) _ tt (plainly (same w (codes "never")) terminal.Never _ tt (plainly (same w (codes "if")) terminal.If _ tt (small_field w)))))))))))
+small_word w = small_known _ (All-lookup (λ t. is_small t ≡ true) (λ k. bytes_eq k w) words (AllPass-from_list_all (λ e. is_small e.1) words refl))
 
-small_number : (w : List ℕ) → Small (number_of w)
+small_number : (w : List ℕ) → is_small_got (number_of w) ≡ true
 unfolding number_of
 small_number w =
-    small_cond (leading_zero w) (bad BadNumber) _ (record { is = tt })
-    (cond_both (leb (value_from 0 w) 9999999) (good (terminal.Numeral (value_from 0 w))) (bad BadNumber) Small (λ e. record { is = leb-true (value_from 0 w) 9999999 e }) (λ e. record { is = tt }))
+    let Small : Got → Type 0 = λ g. is_small_got g ≡ true in
+    cond_both (leading_zero w) _ _ Small (λ _. refl) (λ _. cond_both (nat_le (value_from 0 w) 9999999) _ _ Small (λ e. e) (λ _. refl))
 
-small_symbol : (s : Symbol) → SmallToken (symbol_terminal s)
-small_symbol symbols.AtMost = tt
-small_symbol symbols.AtLeast = tt
-small_symbol symbols.Equal = tt
-small_symbol symbols.Plus = tt
-small_symbol symbols.Times = tt
-small_symbol symbols.Comma = tt
-small_symbol symbols.Semicolon = tt
-small_symbol symbols.Open = tt
-small_symbol symbols.Close = tt
-small_symbol symbols.OpenSquare = tt
-small_symbol symbols.CloseSquare = tt
+small_symbol : (s : Symbol) → is_small (symbol_terminal s) ≡ true
+small_symbol symbols.AtMost = refl
+small_symbol _ = refl
 
-small_meaning : (s : Stretch) → SmallGot (meaning s)
-small_meaning (word w) = (small_word w).is
-small_meaning (number w) = (small_number w).is
+small_meaning : (s : Stretch) → is_small_got (meaning s) ≡ true
+small_meaning (word w) = small_word w
+small_meaning (number w) = small_number w
 small_meaning (symbol s) = small_symbol s
-small_meaning stray = tt
-small_meaning end = tt
+small_meaning stray = refl
+small_meaning end = refl
 
 abbrev SmallGots : List Got → Type 0
 SmallGots [] = Unit {0}
-SmallGots (g ∷ gs) = SmallGot g × SmallGots gs
+SmallGots (g ∷ gs) = (is_small_got g ≡ true) × SmallGots gs
 
 small_text : (xs : List Placed) → SmallGots (gots (meanings xs))
 small_text [] = tt
@@ -193,7 +124,7 @@ small_text (x ∷ xs) = (small_meaning x.stretch, small_text xs)
 
 abbrev SmallItems : List Item → Type 0
 SmallItems [] = Unit {0}
-SmallItems (i ∷ is) = SmallToken i.token × SmallItems is
+SmallItems (i ∷ is) = (is_small i.token ≡ true) × SmallItems is
 
 small_items : (is : List Item) → SmallGots (meant is) → SmallItems is
 small_items [] h = tt
@@ -209,9 +140,9 @@ small_right (i ∷ is) js h = small_right is js h.1
 
 -- the numbers of the conditions are among a book's tokens
 part_small : (k : ℕ) (s : Letters) (p : Part) → SmallItems (part_items k s p) → part_number p ≤ 9999999
-part_small k s (part.Number n) h = h.0
+part_small k s (part.Number n) h = leb-true n 9999999 h.0
 part_small k s (part.Bound l) h = omega arith
-part_small k s (part.Product n l) h = h.0
+part_small k s (part.Product n l) h = leb-true n 9999999 h.0
 
 sum_small : (k : ℕ) (s : Letters) (x : Sum) → SmallItems (sum_items k s x) → sum_number x ≤ 9999999
 sum_small k s (One p) h = part_small k s p h
@@ -261,14 +192,14 @@ rule_small (trigger k p q r) s h =
 rule_small (bracket k r t) s h =
     let rest = (small_right (rule_items (deeper s s.bound) r) _ h.1).1 in
     let one = rule_small r _ (small_left (rule_items (deeper s s.bound) r) _ h.1) in
-    let two = rule_small t _ (small_left (rule_items (later (deeper s s.bound) (size r)) t) _ rest) in
+    let two = rule_small t _ (small_left (rule_items (later (deeper s s.bound) (nodes r)) t) _ rest) in
     omega arith
 
 book_small : (rs : List Rule) (k n : ℕ) → SmallItems (book_items k n rs) → largest rs ≤ 9999999
 book_small [] k n h = omega arith
 book_small (r ∷ rs) k n h =
     let one = rule_small r (top (k + 1) n) (small_left (rule_items (top (k + 1) n) r) _ h) in
-    let more = book_small rs (k + 1) (n + size r) (small_right (rule_items (top (k + 1) n) r) _ h).1 in
+    let more = book_small rs (k + 1) (n + nodes r) (small_right (rule_items (top (k + 1) n) r) _ h).1 in
     omega arith
 
 pub numbers_small : (text : List ℕ) (rs : List Rule) → Accepted text rs → largest rs ≤ 9999999

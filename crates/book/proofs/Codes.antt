@@ -1,15 +1,17 @@
 -- What is written as one list of binders, pattern or rule is written as no other, and begins no other.
-use Rattle.std.proofs.Common.{◌≡◌, ℕ, Bool, true, false, List, [], ◌∷◌, ◌++◌, sym, refl, ap, ◌∙◌, append-nil, arith}
+use Rattle.std.proofs.Common.{◌≡◌, List, [], ◌∷◌, ◌++◌, sym, refl, ap, ◌∙◌, append-nil}
+use Rattle.std.proofs.lemmas.List.{map-append}
+use Rattle.book.specs.Sets.{Letters}
+use Rattle.book.specs.declared.patterns.Ending.{Ending}
+use Rattle.book.specs.declared.patterns.Ending.TheVariants as ending
 use Rattle.feed.specs.declared.fields.Field.{Field}
 use Rattle.book.specs.declared.terms.Binder.{Binder}
-use Rattle.book.specs.declared.sets.Letters.{Letters}
 use Rattle.book.specs.declared.terminals.Terminal.{Terminal}
 use Rattle.book.specs.declared.terminals.Terminal.TheVariants.{Named, Comma}
 use Rattle.book.specs.Rules.{Pattern, Rule}
 use Rattle.book.specs.Grammar.{Item, mark, binder_items, pattern_items, Spot, rule_items, tokens_of}
 use Rattle.book.specs.Patterns.{closer, binders_closed}
 use Rattle.book.specs.Exact.{SameTokens}
-use Rattle.book.proofs.Compose.{tokens_++}
 use Rattle.book.proofs.Det.{Det, done, short, short', both, step, HeadNot, both-sides, det_binders, det_pattern, det_rule}
 
 abbrev plainly : List Terminal → List Item
@@ -28,8 +30,8 @@ freely Q q (x ∷ v) (y ∷ w) = both (λ e. ap (λ t. mark t) e) (λ _. freely 
 
 finish : {Q : Type 0} {is js : List Item} → Det Q is js → tokens_of is ≡ tokens_of js → Q
 finish (done q) e = q
-finish (short j js) e = let z : ◌≡◌ {A = ℕ} 0 1 = cc in absurd (omega arith)
-finish (short' i is) e = let z : ◌≡◌ {A = ℕ} 0 1 = cc in absurd (omega arith)
+finish (short j js) e = absurd (cc)
+finish (short' i is) e = absurd (cc)
 finish (both h k) e = finish (k (cc)) (cc)
 
 cancel : (a v w : List Terminal) → a ++ v ≡ a ++ w → v ≡ w
@@ -39,28 +41,28 @@ cancel (x ∷ a) v w e = cancel a v w (cc)
 code : (X : Type 0) (P : X → List Item) (x y : X) (v w : List Terminal) → ((M N : List Item) → (x ≡ y → Det (x ≡ y) M N) → Det (x ≡ y) (P x ++ M) (P y ++ N))
     → tokens_of (P x) ++ v ≡ tokens_of (P y) ++ w → (x ≡ y) × (v ≡ w)
 code X P x y v w det e =
-    let long : (z : X) (t : List Terminal) → tokens_of (P z ++ plainly t) ≡ tokens_of (P z) ++ t = λ z t. tokens_++ (P z) (plainly t) ∙ ap (λ l. tokens_of (P z) ++ l) (plain_tokens t) in
+    let long : (z : X) (t : List Terminal) → tokens_of (P z ++ plainly t) ≡ tokens_of (P z) ++ t = λ z t. map-append (λ i. i.token) (P z) (plainly t) ∙ ap (λ l. tokens_of (P z) ++ l) (plain_tokens t) in
     let same : x ≡ y = finish (det (plainly v) (plainly w) (λ q. freely (x ≡ y) q v w)) (long x v ∙ e ∙ sym (long y w)) in
     (same, cancel (tokens_of (P x)) v w (e ∙ ap (λ z. tokens_of (P z) ++ w) (sym same)))
 
 -- Binders up to what ends them.
-not_comma : (c : Bool) (M : List Item) → HeadNot Comma (mark (closer c) ∷ M)
-not_comma true M = (λ e. let z : ◌≡◌ {A = ℕ} 0 1 = cc in omega arith)
-not_comma false M = (λ e. let z : ◌≡◌ {A = ℕ} 0 1 = cc in omega arith)
+not_comma : (c : Ending) (M : List Item) → HeadNot Comma (mark (closer c) ∷ M)
+not_comma ending.Conditions M = (λ e. cc)
+not_comma ending.Pattern M = (λ e. cc)
 
-not_named : (c : Bool) (f : Field) (M : List Item) → HeadNot (Named f) (mark (closer c) ∷ M)
-not_named true f M = (λ e. let z : ◌≡◌ {A = ℕ} 0 1 = cc in omega arith)
-not_named false f M = (λ e. let z : ◌≡◌ {A = ℕ} 0 1 = cc in omega arith)
+not_named : (c : Ending) (f : Field) (M : List Item) → HeadNot (Named f) (mark (closer c) ∷ M)
+not_named ending.Conditions f M = (λ e. cc)
+not_named ending.Pattern f M = (λ e. cc)
 
-det_closer : {Q : Type 0} (c d : Bool) (M N : List Item) → (c ≡ d → Det Q M N) → Det Q (mark (closer c) ∷ M) (mark (closer d) ∷ N)
-det_closer true true M N k = step (λ _. (refl, k refl))
-det_closer true false M N k = step (λ t. let z : ◌≡◌ {A = ℕ} 0 1 = cc in absurd (omega arith))
-det_closer false true M N k = step (λ t. let z : ◌≡◌ {A = ℕ} 0 1 = cc in absurd (omega arith))
-det_closer false false M N k = step (λ _. (refl, k refl))
+det_closer : {Q : Type 0} (c d : Ending) (M N : List Item) → (c ≡ d → Det Q M N) → Det Q (mark (closer c) ∷ M) (mark (closer d) ∷ N)
+det_closer ending.Conditions ending.Conditions M N k = step (λ _. (refl, k refl))
+det_closer ending.Conditions ending.Pattern M N k = step (λ t. absurd (cc))
+det_closer ending.Pattern ending.Conditions M N k = step (λ t. absurd (cc))
+det_closer ending.Pattern ending.Pattern M N k = step (λ _. (refl, k refl))
 
-pub binders_code : (bs bs' : List Binder) (c c' : Bool) (v w : List Terminal) → tokens_of (binders_closed (bs, c)) ++ v ≡ tokens_of (binders_closed (bs', c')) ++ w → (bs ≡ bs') × (c ≡ c') × (v ≡ w)
+pub binders_code : (bs bs' : List Binder) (c c' : Ending) (v w : List Terminal) → tokens_of (binders_closed (bs, c)) ++ v ≡ tokens_of (binders_closed (bs', c')) ++ w → (bs ≡ bs') × (c ≡ c') × (v ≡ w)
 binders_code bs bs' c c' v w e =
-    let r = code (List Binder × Bool) binders_closed (bs, c) (bs', c') v w
+    let r = code (List Binder × Ending) binders_closed (bs, c) (bs', c') v w
     (λ M N k. both-sides (binder_items bs) (mark (closer c) ∷ []) M (binder_items bs') (mark (closer c') ∷ []) N
     (det_binders bs bs' (mark (closer c) ∷ M) (mark (closer c') ∷ N) (not_comma c M) (not_comma c' N) (λ f. not_named c f M) (λ f. not_named c' f N)
     (λ eb. det_closer c c' M N (λ ec. k (λ i. (eb i, ec i)))))) e in

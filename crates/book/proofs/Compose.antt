@@ -1,43 +1,37 @@
 -- How what the readers of the parts did makes up what the reader of the whole did.
-use Rattle.std.proofs.Common.{◌≡◌, ℕ, ◌<◌, false, List, [], ◌∷◌, ◌++◌, length, Some, None, Err, sym, refl, ap, ◌∙◌, subst, append_assoc, arith, length-append}
+use Rattle.std.proofs.Common.{◌≡◌, ℕ, Bool, true, if◌then◌else◌, Option, false, List, [], ◌∷◌, ◌++◌, Some, None, Err, sym, refl, ap, ◌∙◌, subst, append_assoc, Ok}
+use Rattle.std.proofs.lemmas.List.{map-append}
 use Rattle.book.specs.declared.refusals.Fault.{Fault}
 use Rattle.book.specs.declared.refusals.Reason.{Reason}
-use Rattle.book.specs.declared.refusals.Reason.TheVariants.{NotAllowed}
+use Rattle.book.specs.declared.refusals.Reason.TheVariants.{NotAllowed, PastLimit}
 use Rattle.book.specs.declared.refusals.Refusal.{Refusal}
 use Rattle.book.specs.declared.refusals.Refusal.TheVariants.{Faulty, NoMemory}
 use Rattle.book.specs.declared.terminals.Seen.{Seen}
 use Rattle.book.specs.declared.terminals.Terminal.{Terminal}
 use Rattle.book.specs.Grammar.{Item, tokens_of}
-use Rattle.book.specs.Text.{Got, good, bad, Lexeme, lexeme}
-use Rattle.book.specs.Faults.{fault, AllSound, gots, meant}
+use Rattle.book.specs.Text.{Got, Lexeme, lexeme}
+use Rattle.book.specs.Faults.{fault, AllSound}
 use Rattle.book.specs.Reading.{Fits, any, Reads, FaultIn, unread, strange, past, Fails}
 use Rattle.book.specs.Readers.{is_end, seen_as, Passed, ToldBy}
-
-pub gots-++ : (a b : List Lexeme) → gots (a ++ b) ≡ gots a ++ gots b
-gots-++ [] b = refl
-gots-++ (x ∷ a) b = ap (λ l. x.got ∷ l) (gots-++ a b)
-
-pub meant-++ : (a b : List Item) → meant (a ++ b) ≡ meant a ++ meant b
-meant-++ [] b = refl
-meant-++ (x ∷ a) b = ap (λ l. good x.token ∷ l) (meant-++ a b)
-
-pub tokens_++ : (a b : List Item) → tokens_of (a ++ b) ≡ tokens_of a ++ tokens_of b
-tokens_++ [] b = refl
-tokens_++ (x ∷ a) b = ap (λ l. x.token ∷ l) (tokens_++ a b)
 
 pub sound-++ : (a b : List Item) → AllSound a → AllSound b → AllSound (a ++ b)
 sound-++ [] b s t = t
 sound-++ (x ∷ a) b s t = (s.0, sound-++ a b s.1 t)
 
+-- what is not at fault is within a limit
+pub within_limit : (past : Bool) (x : Option Reason) → (if past then Some PastLimit else x) ≡ None → past ≡ false
+within_limit true x e = absurd (cc)
+within_limit false x e = refl
+
 -- nothing was read
 pub start : (from to : List Lexeme) → from ≡ to → Reads from [] to
 start from to e = record { before = []; split = e; read = refl; sound = tt }
 
-pub then : (from mid to : List Lexeme) (is js : List Item) → Reads from is mid → Reads mid js to → Reads from (is ++ js) to
-then from mid to is js r s = record {
+pub read_on : (from mid to : List Lexeme) (is js : List Item) → Reads from is mid → Reads mid js to → Reads from (is ++ js) to
+read_on from mid to is js r s = record {
   before = r.before ++ s.before;
   split = r.split ∙ ap (λ l. r.before ++ l) s.split ∙ sym (append_assoc r.before s.before to);
-  read = gots-++ r.before s.before ∙ (λ i. r.read i ++ s.read i) ∙ sym (meant-++ is js);
+  read = map-append (λ l. l.got) r.before s.before ∙ (λ i. r.read i ++ s.read i) ∙ sym (map-append (λ i. Ok i.token) is js);
   sound = sound-++ is js r.sound s.sound;
 }
 
@@ -52,7 +46,7 @@ onto from to to' is e r = subst (λ l. Reads from is l) e r
 -- one token
 pub one : (from rest to : List Lexeme) (s : Seen) (i : Item) → from ≡ seen_as s ∷ rest → (is_end s.terminal ≡ false → rest ≡ to) → s.terminal ≡ i.token → is_end i.token ≡ false → fault i ≡ None → Reads from (i ∷ []) to
 one from rest to s i e goes t more sound =
-    record { before = seen_as s ∷ []; split = e ∙ ap (λ l. seen_as s ∷ l) (goes (ap is_end t ∙ more)); read = ap (λ x. good x ∷ []) t; sound = (sound, tt) }
+    record { before = seen_as s ∷ []; split = e ∙ ap (λ l. seen_as s ∷ l) (goes (ap is_end t ∙ more)); read = ap (λ x. Ok x ∷ []) t; sound = (sound, tt) }
 
 -- what was read, and the token that stands there
 pub at : (from mid rest : List Lexeme) (is : List Item) (l : Lexeme) → Reads from is mid → mid ≡ l ∷ rest → Reads from is (l ∷ rest)
@@ -78,7 +72,7 @@ within X Y P S Q U a whole z eq inv from mid r p d f = record {
   split = d.split ∙ ap (λ l. d.before ++ l) f.split ∙ sym (append_assoc d.before f.before (f.here ∷ f.after));
   place = f.place;
   pre = a ++ f.pre;
-  read = gots-++ d.before f.before ∙ (λ i. d.read i ++ f.read i) ∙ sym (meant-++ a f.pre);
+  read = map-append (λ l. l.got) d.before f.before ∙ (λ i. d.read i ++ f.read i) ∙ sym (map-append (λ i. Ok i.token) a f.pre);
   sound = sound-++ a f.pre d.sound f.sound;
   tree = whole f.tree;
   rest = f.rest ++ z f.tree;
@@ -89,7 +83,7 @@ within X Y P S Q U a whole z eq inv from mid r p d f = record {
     lift : (g : Got) (m : Reason) → FaultIn X P S f.pre g m → FaultIn Y Q U (a ++ f.pre) g m
     lift g m unread = unread
     lift g m (strange {t} h) = strange (λ y u more fits e.
-        let split = e ∙ ap (λ l. l ++ t ∷ more) (tokens_++ a f.pre) ∙ append_assoc (tokens_of a) (tokens_of f.pre) (t ∷ more) in
+        let split = e ∙ ap (λ l. l ++ t ∷ more) (map-append (λ i. i.token) a f.pre) ∙ append_assoc (tokens_of a) (tokens_of f.pre) (t ∷ more) in
         let part = inv y u (tokens_of f.pre ++ t ∷ more) fits split in
         h part.0 part.1 more part.2 (sym part.3))
     lift g m (past x i more e is) = past (whole x) i (more ++ z x)
@@ -106,10 +100,10 @@ part_of T X U Y f h P Q a whole z eq inv from mid to to' r NoMemory told = tt
 
 -- After the items a, what stands there is no token.
 pub no_token : (Y : Type 0) (Q : Y → List Item) (U : Y → Terminal → Type 0) (a : List Item) (y : Y) (rest : List Item) → Q y ≡ a ++ rest
-    → (from mid after : List Lexeme) (e : Fault) → Reads from a mid → mid ≡ lexeme e.place (bad e.reason) ∷ after → Fails Y Q U from e.reason e.place
+    → (from mid after : List Lexeme) (e : Fault) → Reads from a mid → mid ≡ lexeme e.place (Err e.reason) ∷ after → Fails Y Q U from e.reason e.place
 no_token Y Q U a y rest eq from mid after e r m = record {
   before = r.before;
-  here = lexeme e.place (bad e.reason);
+  here = lexeme e.place (Err e.reason);
   after = after;
   split = r.split ∙ ap (λ l. r.before ++ l) m;
   place = refl;
@@ -156,23 +150,15 @@ faulty Y Q U a y i rest eq from mid after s n r m t is = record {
   tree = y;
   rest = i ∷ rest;
   begins = eq;
-  fault = subst (λ x. FaultIn Y Q U a (good x) n) (sym t) (past y i rest eq is);
+  fault = subst (λ x. FaultIn Y Q U a (Ok x) n) (sym t) (past y i rest eq is);
 }
 
 -- the tokens of two stretches with one token between
 pub flat : (a : List Item) (x : Item) (b : List Item) (u : List Terminal) → tokens_of (a ++ (x ∷ b)) ++ u ≡ tokens_of a ++ x.token ∷ (tokens_of b ++ u)
-flat a x b u = ap (λ l. l ++ u) (tokens_++ a (x ∷ b)) ∙ append_assoc (tokens_of a) (x.token ∷ tokens_of b) u
-
--- what is left to read shrinks
-pub shrinks : (from to : List Lexeme) (i : Item) (is : List Item) → Reads from (i ∷ is) to → length to < length from
-shrinks from to i is r = go r.before r.read r.split
-  where
-    go : (b : List Lexeme) → gots b ≡ meant (i ∷ is) → from ≡ b ++ to → length to < length from
-    go [] e s = let z : ◌≡◌ {A = ℕ} 0 1 = cc in absurd (omega arith)
-    go (l ∷ b) e s = omega (arith, ap length s, length-append b to)
+flat a x b u = ap (λ l. l ++ u) (map-append (λ i. i.token) a (x ∷ b)) ∙ append_assoc (tokens_of a) (x.token ∷ tokens_of b) u
 
 -- The same three where nothing was read before.
-pub bad-first : (Y : Type 0) (Q : Y → List Item) (U : Y → Terminal → Type 0) (y : Y) (from after : List Lexeme) (e : Fault) → from ≡ lexeme e.place (bad e.reason) ∷ after → Fails Y Q U from e.reason e.place
+pub bad-first : (Y : Type 0) (Q : Y → List Item) (U : Y → Terminal → Type 0) (y : Y) (from after : List Lexeme) (e : Fault) → from ≡ lexeme e.place (Err e.reason) ∷ after → Fails Y Q U from e.reason e.place
 bad-first Y Q U y from after e m = no_token Y Q U [] y (Q y) refl from from after e (start from from refl) m
 
 pub wrong_first : (Y : Type 0) (Q : Y → List Item) (U : Y → Terminal → Type 0) (y : Y) (from after : List Lexeme) (s : Seen) → from ≡ seen_as s ∷ after
@@ -211,9 +197,9 @@ passed from mid rest to is s r e goes = record { rest = rest; reads = at from mi
 
 -- a tree and the token after it, which is that of i
 pub with-token : (from to : List Lexeme) (is : List Item) (s : Seen) (i : Item) → Passed from is s to → s.terminal ≡ i.token → is_end i.token ≡ false → fault i ≡ None → Reads from (is ++ (i ∷ [])) to
-with-token from to is s i p t more sound = then from (seen_as s ∷ p.rest) to is (i ∷ []) p.reads (one (seen_as s ∷ p.rest) p.rest to s i refl p.goes t more sound)
+with-token from to is s i p t more sound = read_on from (seen_as s ∷ p.rest) to is (i ∷ []) p.reads (one (seen_as s ∷ p.rest) p.rest to s i refl p.goes t more sound)
 
 -- what was read before, then a tree and the token after it
 pub passed_then : (from mid to : List Lexeme) (is js all : List Item) (s : Seen) → is ++ js ≡ all → Reads from is mid → Passed mid js s to → Passed from all s to
 passed_then from mid to is js all s e r p =
-    record { rest = p.rest; reads = alike from (seen_as s ∷ p.rest) (is ++ js) all e (then from mid (seen_as s ∷ p.rest) is js r p.reads); goes = p.goes }
+    record { rest = p.rest; reads = alike from (seen_as s ∷ p.rest) (is ++ js) all e (read_on from mid (seen_as s ∷ p.rest) is js r p.reads); goes = p.goes }

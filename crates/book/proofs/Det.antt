@@ -1,5 +1,5 @@
 -- Two trees that are written alike up to a token have the same items up to there.
-use Rattle.std.proofs.Common.{◌≡◌, ℕ, ◌+◌, List, [], ◌∷◌, ◌++◌, sym, refl, ap, subst, append_assoc, arith}
+use Rattle.std.proofs.Common.{◌≡◌, ℕ, ◌+◌, List, [], ◌∷◌, ◌++◌, sym, refl, ap, subst, append_assoc}
 use Rattle.feed.specs.declared.fields.Field.{Field}
 use Rattle.book.specs.declared.terms.Binder.{Binder}
 use Rattle.book.specs.declared.terms.Operand.{Operand}
@@ -9,13 +9,12 @@ use Rattle.book.specs.declared.terms.Part.TheVariants as part
 use Rattle.book.specs.declared.terms.Sum.{Sum}
 use Rattle.book.specs.declared.terms.Sum.TheVariants.{One, Two, Three}
 use Rattle.book.specs.declared.terms.Condition.{Condition}
-use Rattle.book.specs.declared.sets.Letters.{Letters}
-use Rattle.book.specs.declared.sets.Fields.{Fields}
 use Rattle.book.specs.declared.terminals.Terminal.{Terminal}
 use Rattle.book.specs.declared.terminals.Terminal.TheVariants.{Before, Until, Then, Joint, If, Named, Compare, Plus, Times, Comma, Close, CloseSquare, End}
 use Rattle.book.specs.Rules.{Pattern, never, lines, Rule, duty, trigger, bracket}
-use Rattle.book.specs.Sets.{no_letters, no_fields, with_field, with_operand, with_binders, with_pattern}
-use Rattle.book.specs.Grammar.{Item, mark, operand_item, more_binders, binder_items, part_items, sum_items, condition_items, conditions_items, if_items, pattern_items, size, Spot, deeper, later, rule_items, top, book_items}
+use Rattle.book.specs.Sets.{Fields, Letters, no_letters, no_fields, with_field, with_operand, with_binders, with_pattern}
+use Rattle.book.specs.Grammar.{Item, mark, operand_item, more_binders, binder_items, part_items, sum_items, condition_items, conditions_items, if_items, pattern_items, Spot, deeper, later, rule_items, top, book_items}
+use Rattle.book.specs.Sizes.{nodes as size}
 
 -- The two lists agree up to the first token that differs; and Q holds where they end together.
 pub data Det (Q : Type 0) : List Item → List Item → Type 0 where
@@ -56,8 +55,8 @@ both-sides a b M a' b' N d = left a b M _ (right a' b' N _ d)
 -- Binders.
 det_operand : {Q : Type 0} (v v' : Operand) (ls ls' : Letters) (M N : List Item) → ls ≡ ls' → (v ≡ v' → Det Q M N) → Det Q (operand_item ls v ∷ M) (operand_item ls' v' ∷ N)
 det_operand (operand.Number n) (operand.Number m) ls ls' M N e k = step (λ t. (cc, k (cc)))
-det_operand (operand.Number n) (operand.Bound l) ls ls' M N e k = step (λ t. let z : ◌≡◌ {A = ℕ} 0 1 = cc in absurd (omega arith))
-det_operand (operand.Bound l) (operand.Number n) ls ls' M N e k = step (λ t. let z : ◌≡◌ {A = ℕ} 0 1 = cc in absurd (omega arith))
+det_operand (operand.Number n) (operand.Bound l) ls ls' M N e k = step (λ t. absurd (cc))
+det_operand (operand.Bound l) (operand.Number n) ls ls' M N e k = step (λ t. absurd (cc))
 det_operand (operand.Bound l) (operand.Bound m) ls ls' M N e k = step (λ t. (cc, k (cc)))
 
 det_more : {Q : Type 0} (bs bs' : List Binder) (fs fs' : Fields) (ls ls' : Letters) (M N : List Item) → fs ≡ fs' → ls ≡ ls' → HeadNot Comma M → HeadNot Comma N → (bs ≡ bs' → Det Q M N) → Det Q (more_binders fs ls bs ++ M) (more_binders fs' ls' bs' ++ N)
@@ -88,13 +87,13 @@ det_binders (b ∷ bs) (b' ∷ bs') M N hM hN fM fN k =
 -- Conditions.
 det_part : {Q : Type 0} (p p' : Part) (k k' : ℕ) (s s' : Letters) (M N : List Item) → k ≡ k' → s ≡ s' → HeadNot Times M → HeadNot Times N → (p ≡ p' → Det Q M N) → Det Q (part_items k s p ++ M) (part_items k' s' p' ++ N)
 det_part (part.Number n) (part.Number n') k k' s s' M N ek es hM hN h = step (λ t. (cc, h (cc)))
-det_part (part.Number n) (part.Bound l') k k' s s' M N ek es hM hN h = step (λ t. let z : ◌≡◌ {A = ℕ} 0 1 = cc in absurd (omega arith))
+det_part (part.Number n) (part.Bound l') k k' s s' M N ek es hM hN h = step (λ t. absurd (cc))
 det_part (part.Number n) (part.Product n' l') k k' s s' M N ek es hM hN h = step (λ t. (cc, det_apart' (mark Times) M _ hM))
-det_part (part.Bound l) (part.Number n') k k' s s' M N ek es hM hN h = step (λ t. let z : ◌≡◌ {A = ℕ} 0 1 = cc in absurd (omega arith))
+det_part (part.Bound l) (part.Number n') k k' s s' M N ek es hM hN h = step (λ t. absurd (cc))
 det_part (part.Bound l) (part.Bound l') k k' s s' M N ek es hM hN h = step (λ t. (cc, h (cc)))
-det_part (part.Bound l) (part.Product n' l') k k' s s' M N ek es hM hN h = step (λ t. let z : ◌≡◌ {A = ℕ} 0 1 = cc in absurd (omega arith))
+det_part (part.Bound l) (part.Product n' l') k k' s s' M N ek es hM hN h = step (λ t. absurd (cc))
 det_part (part.Product n l) (part.Number n') k k' s s' M N ek es hM hN h = step (λ t. (cc, det_apart (mark Times) _ N hN))
-det_part (part.Product n l) (part.Bound l') k k' s s' M N ek es hM hN h = step (λ t. let z : ◌≡◌ {A = ℕ} 0 1 = cc in absurd (omega arith))
+det_part (part.Product n l) (part.Bound l') k k' s s' M N ek es hM hN h = step (λ t. absurd (cc))
 det_part (part.Product n l) (part.Product n' l') k k' s s' M N ek es hM hN h = step (λ t. (cc, step (λ _. (refl, step (λ v. (cc, h (cc)))))))
 
 -- what may not follow a sum's last part
@@ -103,7 +102,7 @@ pub record Free (M : List Item) : Type 0 where
   pub plus : HeadNot Plus M
 
 no_times : Plus ≡ Times → ⊥
-no_times e = let z : ◌≡◌ {A = ℕ} 0 1 = cc in omega arith
+no_times e = cc
 
 det_sum : {Q : Type 0} (x x' : Sum) (k k' : ℕ) (s s' : Letters) (M N : List Item) → k ≡ k' → s ≡ s' → Free M → Free N → (x ≡ x' → Det Q M N) → Det Q (sum_items k s x ++ M) (sum_items k' s' x' ++ N)
 det_sum (One p) (One p') k k' s s' M N ek es fM fN h =
@@ -132,29 +131,29 @@ det_condition : {Q : Type 0} (c c' : Condition) (k k' : ℕ) (s s' : Letters) (M
 det_condition c c' k k' s s' M N ek es fM fN h =
     both-sides (sum_items k s c.left) (mark (Compare c.sign) ∷ sum_items k s c.right) M (sum_items k' s' c'.left) (mark (Compare c'.sign) ∷ sum_items k' s' c'.right) N
     (det_sum c.left c'.left k k' s s' _ _ ek es
-    (free (Compare c.sign) _ (λ e. let z : ◌≡◌ {A = ℕ} 0 1 = cc in omega arith) (λ e. let z : ◌≡◌ {A = ℕ} 0 1 = cc in omega arith))
-    (free (Compare c'.sign) _ (λ e. let z : ◌≡◌ {A = ℕ} 0 1 = cc in omega arith) (λ e. let z : ◌≡◌ {A = ℕ} 0 1 = cc in omega arith))
+    (free (Compare c.sign) _ (λ e. cc) (λ e. cc))
+    (free (Compare c'.sign) _ (λ e. cc) (λ e. cc))
     (λ l. step (λ t. let g : c.sign ≡ c'.sign = cc in (cc, det_sum c.right c'.right k k' s s' M N ek es fM fN (λ r. h (λ i. record { left = l i; sign = g i; right = r i }))))))
 
 det_conditions : {Q : Type 0} (c c' : Condition) (cs cs' : List Condition) (k k' : ℕ) (s s' : Letters) (M N : List Item) → k ≡ k' → s ≡ s' → (c ≡ c' → cs ≡ cs' → Det Q M N) → Det Q (conditions_items k s c cs ++ M) (conditions_items k' s' c' cs' ++ N)
 det_conditions c c' [] [] k k' s s' M N ek es h =
     both-sides (condition_items k s c) (mark CloseSquare ∷ []) M (condition_items k' s' c') (mark CloseSquare ∷ []) N
-    (det_condition c c' k k' s s' _ _ ek es (free CloseSquare _ (λ e. let z : ◌≡◌ {A = ℕ} 0 1 = cc in omega arith) (λ e. let z : ◌≡◌ {A = ℕ} 0 1 = cc in omega arith)) (free CloseSquare _ (λ e. let z : ◌≡◌ {A = ℕ} 0 1 = cc in omega arith) (λ e. let z : ◌≡◌ {A = ℕ} 0 1 = cc in omega arith)) (λ e. step (λ _. (refl, h e refl))))
+    (det_condition c c' k k' s s' _ _ ek es (free CloseSquare _ (λ e. cc) (λ e. cc)) (free CloseSquare _ (λ e. cc) (λ e. cc)) (λ e. step (λ _. (refl, h e refl))))
 det_conditions c c' [] (d' ∷ ds') k k' s s' M N ek es h =
     both-sides (condition_items k s c) (mark CloseSquare ∷ []) M (condition_items k' s' c') (mark Comma ∷ conditions_items (k' + 1) s' d' ds') N
-    (det_condition c c' k k' s s' _ _ ek es (free CloseSquare _ (λ e. let z : ◌≡◌ {A = ℕ} 0 1 = cc in omega arith) (λ e. let z : ◌≡◌ {A = ℕ} 0 1 = cc in omega arith)) (free Comma _ (λ e. let z : ◌≡◌ {A = ℕ} 0 1 = cc in omega arith) (λ e. let z : ◌≡◌ {A = ℕ} 0 1 = cc in omega arith)) (λ e. step (λ t. let z : ◌≡◌ {A = ℕ} 0 1 = cc in absurd (omega arith))))
+    (det_condition c c' k k' s s' _ _ ek es (free CloseSquare _ (λ e. cc) (λ e. cc)) (free Comma _ (λ e. cc) (λ e. cc)) (λ e. step (λ t. absurd (cc))))
 det_conditions c c' (d ∷ ds) [] k k' s s' M N ek es h =
     both-sides (condition_items k s c) (mark Comma ∷ conditions_items (k + 1) s d ds) M (condition_items k' s' c') (mark CloseSquare ∷ []) N
-    (det_condition c c' k k' s s' _ _ ek es (free Comma _ (λ e. let z : ◌≡◌ {A = ℕ} 0 1 = cc in omega arith) (λ e. let z : ◌≡◌ {A = ℕ} 0 1 = cc in omega arith)) (free CloseSquare _ (λ e. let z : ◌≡◌ {A = ℕ} 0 1 = cc in omega arith) (λ e. let z : ◌≡◌ {A = ℕ} 0 1 = cc in omega arith)) (λ e. step (λ t. let z : ◌≡◌ {A = ℕ} 0 1 = cc in absurd (omega arith))))
+    (det_condition c c' k k' s s' _ _ ek es (free Comma _ (λ e. cc) (λ e. cc)) (free CloseSquare _ (λ e. cc) (λ e. cc)) (λ e. step (λ t. absurd (cc))))
 det_conditions c c' (d ∷ ds) (d' ∷ ds') k k' s s' M N ek es h =
     both-sides (condition_items k s c) (mark Comma ∷ conditions_items (k + 1) s d ds) M (condition_items k' s' c') (mark Comma ∷ conditions_items (k' + 1) s' d' ds') N
-    (det_condition c c' k k' s s' _ _ ek es (free Comma _ (λ e. let z : ◌≡◌ {A = ℕ} 0 1 = cc in omega arith) (λ e. let z : ◌≡◌ {A = ℕ} 0 1 = cc in omega arith)) (free Comma _ (λ e. let z : ◌≡◌ {A = ℕ} 0 1 = cc in omega arith) (λ e. let z : ◌≡◌ {A = ℕ} 0 1 = cc in omega arith))
+    (det_condition c c' k k' s s' _ _ ek es (free Comma _ (λ e. cc) (λ e. cc)) (free Comma _ (λ e. cc) (λ e. cc))
     (λ e. step (λ _. (refl, det_conditions d d' ds ds' (k + 1) (k' + 1) s s' M N (ap (λ n. n + 1) ek) es (λ f g. h e (cc))))))
 
 det_if : {Q : Type 0} (cs cs' : List Condition) (s s' : Letters) (M N : List Item) → s ≡ s' → (cs ≡ cs' → Det Q M N) → Det Q (if_items s cs ++ M) (if_items s' cs' ++ N)
 det_if [] [] s s' M N es h = step (λ _. (refl, h refl))
-det_if [] (c' ∷ cs') s s' M N es h = step (λ t. let z : ◌≡◌ {A = ℕ} 0 1 = cc in absurd (omega arith))
-det_if (c ∷ cs) [] s s' M N es h = step (λ t. let z : ◌≡◌ {A = ℕ} 0 1 = cc in absurd (omega arith))
+det_if [] (c' ∷ cs') s s' M N es h = step (λ t. absurd (cc))
+det_if (c ∷ cs) [] s s' M N es h = step (λ t. absurd (cc))
 det_if (c ∷ cs) (c' ∷ cs') s s' M N es h = step (λ _. (refl, det_conditions c c' cs cs' 1 1 s s' M N refl es (λ e f. h (cc))))
 
 -- what follows the binders is an `if` or a `]`
@@ -164,15 +163,15 @@ after_binders (c ∷ cs) s M t a b = a
 
 pub det_pattern : {Q : Type 0} (p p' : Pattern) (s s' : Letters) (M N : List Item) → s ≡ s' → (p ≡ p' → Det Q M N) → Det Q (pattern_items s p ++ M) (pattern_items s' p' ++ N)
 det_pattern never never s s' M N es k = step (λ _. (refl, k refl))
-det_pattern never (lines bs cs) s s' M N es k = step (λ t. let z : ◌≡◌ {A = ℕ} 0 1 = cc in absurd (omega arith))
-det_pattern (lines bs cs) never s s' M N es k = step (λ t. let z : ◌≡◌ {A = ℕ} 0 1 = cc in absurd (omega arith))
+det_pattern never (lines bs cs) s s' M N es k = step (λ t. absurd (cc))
+det_pattern (lines bs cs) never s s' M N es k = step (λ t. absurd (cc))
 det_pattern (lines bs cs) (lines bs' cs') s s' M N es k =
     step (λ _. (
       refl,
       both-sides (binder_items bs) (if_items (with_binders s bs) cs) M (binder_items bs') (if_items (with_binders s' bs') cs') N
           (det_binders bs bs' _ _
-          (after_binders cs _ M Comma (λ e. let z : ◌≡◌ {A = ℕ} 0 1 = cc in omega arith) (λ e. let z : ◌≡◌ {A = ℕ} 0 1 = cc in omega arith)) (after_binders cs' _ N Comma (λ e. let z : ◌≡◌ {A = ℕ} 0 1 = cc in omega arith) (λ e. let z : ◌≡◌ {A = ℕ} 0 1 = cc in omega arith))
-          (λ f. after_binders cs _ M (Named f) (λ e. let z : ◌≡◌ {A = ℕ} 0 1 = cc in omega arith) (λ e. let z : ◌≡◌ {A = ℕ} 0 1 = cc in omega arith)) (λ f. after_binders cs' _ N (Named f) (λ e. let z : ◌≡◌ {A = ℕ} 0 1 = cc in omega arith) (λ e. let z : ◌≡◌ {A = ℕ} 0 1 = cc in omega arith))
+          (after_binders cs _ M Comma (λ e. cc) (λ e. cc)) (after_binders cs' _ N Comma (λ e. cc) (λ e. cc))
+          (λ f. after_binders cs _ M (Named f) (λ e. cc) (λ e. cc)) (λ f. after_binders cs' _ N (Named f) (λ e. cc) (λ e. cc))
           (λ eb. det_if cs cs' (with_binders s bs) (with_binders s' bs') M N (λ i. with_binders (es i) (eb i)) (λ ec. k (cc)))),
     ))
 
@@ -190,12 +189,12 @@ det_rule (duty k p q) (duty k' p' q') s s' M N es h =
       joined (pattern_items s.bound p) (mark Before) (pattern_items s.bound q) M (pattern_items s'.bound p') (mark Before) (pattern_items s'.bound q') N
           (det_pattern p p' s.bound s'.bound _ _ (cc) (λ ep. step (λ _. (refl, det_pattern q q' s.bound s'.bound M N (cc) (λ eq. h (cc)))))),
     ))
-det_rule (duty k p q) (trigger k' p' q' r') s s' M N es h = step (λ t. let z : ◌≡◌ {A = ℕ} 0 1 = cc in absurd (omega arith))
-det_rule (duty k p q) (bracket k' r' t') s s' M N es h = step (λ t. let z : ◌≡◌ {A = ℕ} 0 1 = cc in absurd (omega arith))
-det_rule (trigger k p q r) (duty k' p' q') s s' M N es h = step (λ t. let z : ◌≡◌ {A = ℕ} 0 1 = cc in absurd (omega arith))
-det_rule (trigger k p q r) (bracket k' r' t') s s' M N es h = step (λ t. let z : ◌≡◌ {A = ℕ} 0 1 = cc in absurd (omega arith))
-det_rule (bracket k r t) (duty k' p' q') s s' M N es h = step (λ t. let z : ◌≡◌ {A = ℕ} 0 1 = cc in absurd (omega arith))
-det_rule (bracket k r t) (trigger k' p' q' r') s s' M N es h = step (λ t. let z : ◌≡◌ {A = ℕ} 0 1 = cc in absurd (omega arith))
+det_rule (duty k p q) (trigger k' p' q' r') s s' M N es h = step (λ t. absurd (cc))
+det_rule (duty k p q) (bracket k' r' t') s s' M N es h = step (λ t. absurd (cc))
+det_rule (trigger k p q r) (duty k' p' q') s s' M N es h = step (λ t. absurd (cc))
+det_rule (trigger k p q r) (bracket k' r' t') s s' M N es h = step (λ t. absurd (cc))
+det_rule (bracket k r t) (duty k' p' q') s s' M N es h = step (λ t. absurd (cc))
+det_rule (bracket k r t) (trigger k' p' q' r') s s' M N es h = step (λ t. absurd (cc))
 det_rule (trigger k p q r) (trigger k' p' q' r') s s' M N es h =
     step (λ t. let ek : k ≡ k' = cc in (
       cc,
@@ -220,9 +219,9 @@ det_rule (bracket k r t) (bracket k' r' t') s s' M N es h =
 
 -- a rule does not begin with the end
 no_end : (r : Rule) (s : Spot) (M : List Item) → HeadNot End (rule_items s r ++ M)
-no_end (duty k p q) s M = (λ e. let z : ◌≡◌ {A = ℕ} 0 1 = cc in omega arith)
-no_end (trigger k p q r) s M = (λ e. let z : ◌≡◌ {A = ℕ} 0 1 = cc in omega arith)
-no_end (bracket k r t) s M = (λ e. let z : ◌≡◌ {A = ℕ} 0 1 = cc in omega arith)
+no_end (duty k p q) s M = (λ e. cc)
+no_end (trigger k p q r) s M = (λ e. cc)
+no_end (bracket k r t) s M = (λ e. cc)
 
 pub det_book : {Q : Type 0} (b b' : List Rule) (k k' n n' : ℕ) → k ≡ k' → n ≡ n' → (b ≡ b' → Q) → Det Q (book_items k n b) (book_items k' n' b')
 det_book [] [] k k' n n' ek en q = step (λ _. (refl, done (q refl)))

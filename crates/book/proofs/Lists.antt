@@ -1,9 +1,11 @@
 -- How the lists of a pattern go on.
-use Rattle.std.proofs.Common.{◌≡◌, ℕ, ◌+◌, ◌<◌, ◌≤◌, Bool, true, false, cond, ltb, List, [], ◌∷◌, ◌++◌, length, get_or, drop, Some, None, Ok, Err, Option, Result, sym, refl, ap, ◌∙◌, subst, append_assoc, append-nil, add-one, arith, drop_of_length-le, drop-cons, ltb-false}
+use Rattle.std.proofs.Common.{◌≡◌, ℕ, ◌+◌, ◌≤◌, nat_lt, if◌then◌else◌, List, [], ◌∷◌, ◌++◌, Some, None, Ok, Err, Result, sym, refl, ap, ◌∙◌, subst, append_assoc, append-nil, ltb-false}
+use Rattle.book.specs.declared.patterns.Ending.{Ending}
+use Rattle.book.specs.declared.patterns.Ending.TheVariants as ending
 use Rattle.feed.specs.declared.fields.Field.{Field}
 use Rattle.feed.specs.declared.fields.Field.TheVariants as fields
 use Rattle.book.specs.declared.refusals.Reason.{Reason}
-use Rattle.book.specs.declared.refusals.Reason.TheVariants.{PastLimit, Unbound}
+use Rattle.book.specs.declared.refusals.Reason.TheVariants.{Unbound}
 use Rattle.book.specs.declared.refusals.Refusal.{Refusal}
 use Rattle.book.specs.declared.refusals.Refusal.TheVariants.{Faulty, NoMemory}
 use Rattle.book.specs.declared.terms.Letter.{Letter}
@@ -15,26 +17,17 @@ use Rattle.book.specs.declared.terms.Part.TheVariants as part
 use Rattle.book.specs.declared.terms.Sum.{Sum}
 use Rattle.book.specs.declared.terms.Sum.TheVariants.{One, Two, Three}
 use Rattle.book.specs.declared.terms.Condition.{Condition}
-use Rattle.book.specs.declared.sets.Letters.{Letters}
-use Rattle.book.specs.declared.sets.Fields.{Fields}
 use Rattle.book.specs.declared.terminals.Terminal.{Terminal}
 use Rattle.book.specs.declared.terminals.Terminal.TheVariants.{If, Named, Lettered, Numeral, Comma, CloseSquare}
-use Rattle.book.specs.Sets.{has, no_letters, no_fields, with_field, with_operand, with_binders}
+use Rattle.book.specs.Sets.{Fields, Letters, has, no_letters, no_fields, with_field, with_operand}
 use Rattle.book.specs.Grammar.{Item, item, mark, names, operand_item, part_items, sum_items, condition_items, conditions_items, tokens_of}
 use Rattle.book.specs.Text.{Lexeme}
 use Rattle.book.specs.Faults.{AllSound, fault}
 use Rattle.book.specs.Parts.{ConditionStops}
-use Rattle.book.specs.Patterns.{operand_items, more_closed, binders_closed, ToldBinders, conditions_closed, ToldConditions}
+use Rattle.book.specs.Patterns.{operand_items, more_closed, binders_closed, ToldBinders, conditions_closed}
 use Rattle.book.specs.Reading.{Fits, any, Reads, Fails}
-use Rattle.book.proofs.Compose.{closed, stops, flat, then, alike, within}
+use Rattle.book.proofs.Compose.{within_limit, closed, stops, flat, read_on, alike, within}
 use Rattle.book.proofs.Sums.{sum_ends, condition_code}
-
--- Letters of binders.
-pub letters_more : (s : Letters) (bs : List Binder) (i : ℕ) (d : Binder) → i < length bs → with_binders s (drop i bs) ≡ with_binders (with_operand s (get_or bs i d).operand) (drop (i + 1) bs)
-letters_more s bs i d h = ap (with_binders s) (drop-cons bs i d h ∙ ap (λ k. get_or bs i d ∷ drop k bs) (sym (add-one i)))
-
-pub letters_end : (s : Letters) (bs : List Binder) (i : ℕ) → length bs ≤ i → with_binders s (drop i bs) ≡ s
-letters_end s bs i h = ap (with_binders s) (drop_of_length-le bs {i = i} h)
 
 -- Operands.
 pub operand_first : (ls : Letters) (v : Operand) (t : Terminal) (u more : List Terminal) → tokens_of (operand_items ls v) ++ u ≡ t ∷ more → ((n : ℕ) → t ≡ Numeral n → ⊥) → ((l : Letter) → t ≡ Lettered l → ⊥) → ⊥
@@ -43,33 +36,33 @@ operand_first ls (operand.Bound l) t u more e a b = b l (cc)
 
 operand_code : (ls ls' : Letters) (v v' : Operand) (u w : List Terminal) → tokens_of (operand_items ls v) ++ u ≡ tokens_of (operand_items ls' v') ++ w → (v ≡ v') × (u ≡ w)
 operand_code ls ls' (operand.Number n) (operand.Number m) u w e = (cc, cc)
-operand_code ls ls' (operand.Number n) (operand.Bound l) u w e = let z : ◌≡◌ {A = ℕ} 0 1 = cc in absurd (omega arith)
-operand_code ls ls' (operand.Bound l) (operand.Number m) u w e = let z : ◌≡◌ {A = ℕ} 0 1 = cc in absurd (omega arith)
+operand_code ls ls' (operand.Number n) (operand.Bound l) u w e = absurd (cc)
+operand_code ls ls' (operand.Bound l) (operand.Number m) u w e = absurd (cc)
 operand_code ls ls' (operand.Bound l) (operand.Bound m) u w e = (cc, cc)
 
 -- Binders after the first.
 abbrev pub binder : Field → Operand → Binder
 binder f v = record { field = f; operand = v }
 
-pub more-first : (fs : Fields) (ls : Letters) (bs : List Binder) (b : Bool) (t : Terminal) (u more : List Terminal) → tokens_of (more_closed fs ls (bs, b)) ++ u ≡ t ∷ more → (t ≡ If → ⊥) → (t ≡ CloseSquare → ⊥) → (t ≡ Comma → ⊥) → ⊥
-more-first fs ls [] true t u more e i s c = i (cc)
-more-first fs ls [] false t u more e i s c = s (cc)
+pub more-first : (fs : Fields) (ls : Letters) (bs : List Binder) (b : Ending) (t : Terminal) (u more : List Terminal) → tokens_of (more_closed fs ls (bs, b)) ++ u ≡ t ∷ more → (t ≡ If → ⊥) → (t ≡ CloseSquare → ⊥) → (t ≡ Comma → ⊥) → ⊥
+more-first fs ls [] ending.Conditions t u more e i s c = i (cc)
+more-first fs ls [] ending.Pattern t u more e i s c = s (cc)
 more-first fs ls (x ∷ bs) b t u more e i s c = c (cc)
 
-pub inv_field : (fs : Fields) (ls : Letters) (bs : List Binder) (b : Bool) (u v : List Terminal) → tokens_of (more_closed fs ls (bs, b)) ++ u ≡ Comma ∷ v → (x : Field) × (w : List Terminal) × (v ≡ Named x ∷ w)
-inv_field fs ls [] true u v e = let z : ◌≡◌ {A = ℕ} 0 1 = cc in absurd (omega arith)
-inv_field fs ls [] false u v e = let z : ◌≡◌ {A = ℕ} 0 1 = cc in absurd (omega arith)
+pub inv_field : (fs : Fields) (ls : Letters) (bs : List Binder) (b : Ending) (u v : List Terminal) → tokens_of (more_closed fs ls (bs, b)) ++ u ≡ Comma ∷ v → (x : Field) × (w : List Terminal) × (v ≡ Named x ∷ w)
+inv_field fs ls [] ending.Conditions u v e = absurd (cc)
+inv_field fs ls [] ending.Pattern u v e = absurd (cc)
 inv_field fs ls (x ∷ bs) b u v e = (x.field, (operand_item ls x.operand).token ∷ (tokens_of (more_closed (with_field fs x.field) (with_operand ls x.operand) (bs, b)) ++ u), (let h : Named x.field ∷ (operand_item ls x.operand).token ∷ (tokens_of (more_closed (with_field fs x.field) (with_operand ls x.operand) (bs, b)) ++ u) ≡ v = cc in sym h))
 
-pub inv_operand : (fs : Fields) (ls : Letters) (f : Field) (bs : List Binder) (b : Bool) (u v : List Terminal) → tokens_of (more_closed fs ls (bs, b)) ++ u ≡ Comma ∷ Named f ∷ v → (x : Operand) × (w : List Terminal) × (v ≡ tokens_of (operand_items ls x) ++ w)
-inv_operand fs ls f [] true u v e = let z : ◌≡◌ {A = ℕ} 0 1 = cc in absurd (omega arith)
-inv_operand fs ls f [] false u v e = let z : ◌≡◌ {A = ℕ} 0 1 = cc in absurd (omega arith)
+pub inv_operand : (fs : Fields) (ls : Letters) (f : Field) (bs : List Binder) (b : Ending) (u v : List Terminal) → tokens_of (more_closed fs ls (bs, b)) ++ u ≡ Comma ∷ Named f ∷ v → (x : Operand) × (w : List Terminal) × (v ≡ tokens_of (operand_items ls x) ++ w)
+inv_operand fs ls f [] ending.Conditions u v e = absurd (cc)
+inv_operand fs ls f [] ending.Pattern u v e = absurd (cc)
 inv_operand fs ls f (x ∷ bs) b u v e = (x.operand, (tokens_of (more_closed (with_field fs x.field) (with_operand ls x.operand) (bs, b)) ++ u), (let h : (operand_item ls x.operand).token ∷ (tokens_of (more_closed (with_field fs x.field) (with_operand ls x.operand) (bs, b)) ++ u) ≡ v = cc in sym h))
 
-pub inv_more : (fs : Fields) (ls : Letters) (f : Field) (o : Operand) (bs : List Binder) (b : Bool) (u v : List Terminal) → tokens_of (more_closed fs ls (bs, b)) ++ u ≡ Comma ∷ Named f ∷ (operand_item ls o).token ∷ v
-    → (x : List Binder × Bool) × (w : List Terminal) × (v ≡ tokens_of (more_closed (with_field fs f) (with_operand ls o) x) ++ w)
-inv_more fs ls f o [] true u v e = let z : ◌≡◌ {A = ℕ} 0 1 = cc in absurd (omega arith)
-inv_more fs ls f o [] false u v e = let z : ◌≡◌ {A = ℕ} 0 1 = cc in absurd (omega arith)
+pub inv_more : (fs : Fields) (ls : Letters) (f : Field) (o : Operand) (bs : List Binder) (b : Ending) (u v : List Terminal) → tokens_of (more_closed fs ls (bs, b)) ++ u ≡ Comma ∷ Named f ∷ (operand_item ls o).token ∷ v
+    → (x : List Binder × Ending) × (w : List Terminal) × (v ≡ tokens_of (more_closed (with_field fs f) (with_operand ls o) x) ++ w)
+inv_more fs ls f o [] ending.Conditions u v e = absurd (cc)
+inv_more fs ls f o [] ending.Pattern u v e = absurd (cc)
 inv_more fs ls f o (x ∷ bs) b u v e =
     let rest = tokens_of (more_closed (with_field fs x.field) (with_operand ls x.operand) (bs, b)) ++ u in
     let q : x.field ≡ f = cc in
@@ -80,30 +73,30 @@ inv_more fs ls f o (x ∷ bs) b u v e =
 -- one binder more, and then what the rest gave
 pub more_binders_lem : (fs : Fields) (ls : Letters) (f : Field) (o : Operand) (from mid to : List Lexeme) (xs ys zs : List Binder)
     → Reads from (mark Comma ∷ item (Named f) (names fs f) ∷ operand_item ls o ∷ []) mid → ys ≡ xs ++ (binder f o ∷ [])
-    → (r : Result Bool Refusal) → ToldBinders (more_closed (with_field fs f) (with_operand ls o)) mid r to ys zs → ToldBinders (more_closed fs ls) from r to xs zs
+    → (r : Result Ending Refusal) → ToldBinders (more_closed (with_field fs f) (with_operand ls o)) mid r to ys zs → ToldBinders (more_closed fs ls) from r to xs zs
 more_binders_lem fs ls f o from mid to xs ys zs a e (Ok b) h =
-    (binder f o ∷ h.0, h.1 ∙ ap (λ l. l ++ h.0) e ∙ append_assoc xs (binder f o ∷ []) h.0, then from mid to (mark Comma ∷ item (Named f) (names fs f) ∷ operand_item ls o ∷ []) (more_closed (with_field fs f) (with_operand ls o) (h.0, b)) a h.2)
+    (binder f o ∷ h.0, h.1 ∙ ap (λ l. l ++ h.0) e ∙ append_assoc xs (binder f o ∷ []) h.0, read_on from mid to (mark Comma ∷ item (Named f) (names fs f) ∷ operand_item ls o ∷ []) (more_closed (with_field fs f) (with_operand ls o) (h.0, b)) a h.2)
 more_binders_lem fs ls f o from mid to xs ys zs a e (Err (Faulty x)) h =
-    within (List Binder × Bool) (List Binder × Bool) (more_closed (with_field fs f) (with_operand ls o)) (any (List Binder × Bool)) (more_closed fs ls) (any (List Binder × Bool)) (mark Comma ∷ item (Named f) (names fs f) ∷ operand_item ls o ∷ [])
+    within (List Binder × Ending) (List Binder × Ending) (more_closed (with_field fs f) (with_operand ls o)) (any (List Binder × Ending)) (more_closed fs ls) (any (List Binder × Ending)) (mark Comma ∷ item (Named f) (names fs f) ∷ operand_item ls o ∷ [])
     (λ y. (binder f o ∷ y.0, y.1)) (λ _. []) (λ y. ap (λ l. mark Comma ∷ item (Named f) (names fs f) ∷ operand_item ls o ∷ l) (sym (append-nil (more_closed (with_field fs f) (with_operand ls o) y))))
     (λ y u v _ q. let i = inv_more fs ls f o y.0 y.1 u v q in (i.0, i.1, closed i.0 i.1, i.2)) from mid x.reason x.place a h
 more_binders_lem fs ls f o from mid to xs ys zs a e (Err NoMemory) h = tt
 
 -- Binders from the first on.
-pub binders_first : (bs : List Binder) (b : Bool) (t : Terminal) (u more : List Terminal) → tokens_of (binders_closed (bs, b)) ++ u ≡ t ∷ more → (t ≡ If → ⊥) → (t ≡ CloseSquare → ⊥) → ((f : Field) → t ≡ Named f → ⊥) → ⊥
-binders_first [] true t u more e i s c = i (cc)
-binders_first [] false t u more e i s c = s (cc)
+pub binders_first : (bs : List Binder) (b : Ending) (t : Terminal) (u more : List Terminal) → tokens_of (binders_closed (bs, b)) ++ u ≡ t ∷ more → (t ≡ If → ⊥) → (t ≡ CloseSquare → ⊥) → ((f : Field) → t ≡ Named f → ⊥) → ⊥
+binders_first [] ending.Conditions t u more e i s c = i (cc)
+binders_first [] ending.Pattern t u more e i s c = s (cc)
 binders_first (x ∷ bs) b t u more e i s c = c x.field (cc)
 
-pub inv_first_operand : (f : Field) (bs : List Binder) (b : Bool) (u v : List Terminal) → tokens_of (binders_closed (bs, b)) ++ u ≡ Named f ∷ v → (x : Operand) × (w : List Terminal) × (v ≡ tokens_of (operand_items no_letters x) ++ w)
-inv_first_operand f [] true u v e = let z : ◌≡◌ {A = ℕ} 0 1 = cc in absurd (omega arith)
-inv_first_operand f [] false u v e = let z : ◌≡◌ {A = ℕ} 0 1 = cc in absurd (omega arith)
+pub inv_first_operand : (f : Field) (bs : List Binder) (b : Ending) (u v : List Terminal) → tokens_of (binders_closed (bs, b)) ++ u ≡ Named f ∷ v → (x : Operand) × (w : List Terminal) × (v ≡ tokens_of (operand_items no_letters x) ++ w)
+inv_first_operand f [] ending.Conditions u v e = absurd (cc)
+inv_first_operand f [] ending.Pattern u v e = absurd (cc)
 inv_first_operand f (x ∷ bs) b u v e = (x.operand, (tokens_of (more_closed (with_field no_fields x.field) (with_operand no_letters x.operand) (bs, b)) ++ u), (let h : (operand_item no_letters x.operand).token ∷ (tokens_of (more_closed (with_field no_fields x.field) (with_operand no_letters x.operand) (bs, b)) ++ u) ≡ v = cc in sym h))
 
-pub inv_first : (f : Field) (o : Operand) (bs : List Binder) (b : Bool) (u v : List Terminal) → tokens_of (binders_closed (bs, b)) ++ u ≡ Named f ∷ (operand_item no_letters o).token ∷ v
-    → (x : List Binder × Bool) × (w : List Terminal) × (v ≡ tokens_of (more_closed (with_field no_fields f) (with_operand no_letters o) x) ++ w)
-inv_first f o [] true u v e = let z : ◌≡◌ {A = ℕ} 0 1 = cc in absurd (omega arith)
-inv_first f o [] false u v e = let z : ◌≡◌ {A = ℕ} 0 1 = cc in absurd (omega arith)
+pub inv_first : (f : Field) (o : Operand) (bs : List Binder) (b : Ending) (u v : List Terminal) → tokens_of (binders_closed (bs, b)) ++ u ≡ Named f ∷ (operand_item no_letters o).token ∷ v
+    → (x : List Binder × Ending) × (w : List Terminal) × (v ≡ tokens_of (more_closed (with_field no_fields f) (with_operand no_letters o) x) ++ w)
+inv_first f o [] ending.Conditions u v e = absurd (cc)
+inv_first f o [] ending.Pattern u v e = absurd (cc)
 inv_first f o (x ∷ bs) b u v e =
     let rest = tokens_of (more_closed (with_field no_fields x.field) (with_operand no_letters x.operand) (bs, b)) ++ u in
     let q : x.field ≡ f = cc in
@@ -113,21 +106,21 @@ inv_first f o (x ∷ bs) b u v e =
 
 pub first_binders : (f : Field) (o : Operand) (from mid to : List Lexeme) (xs ys zs : List Binder)
     → Reads from (item (Named f) (names no_fields f) ∷ operand_item no_letters o ∷ []) mid → ys ≡ xs ++ (binder f o ∷ [])
-    → (r : Result Bool Refusal) → ToldBinders (more_closed (with_field no_fields f) (with_operand no_letters o)) mid r to ys zs → ToldBinders binders_closed from r to xs zs
+    → (r : Result Ending Refusal) → ToldBinders (more_closed (with_field no_fields f) (with_operand no_letters o)) mid r to ys zs → ToldBinders binders_closed from r to xs zs
 first_binders f o from mid to xs ys zs a e (Ok b) h =
-    (binder f o ∷ h.0, h.1 ∙ ap (λ l. l ++ h.0) e ∙ append_assoc xs (binder f o ∷ []) h.0, then from mid to (item (Named f) (names no_fields f) ∷ operand_item no_letters o ∷ []) (more_closed (with_field no_fields f) (with_operand no_letters o) (h.0, b)) a h.2)
+    (binder f o ∷ h.0, h.1 ∙ ap (λ l. l ++ h.0) e ∙ append_assoc xs (binder f o ∷ []) h.0, read_on from mid to (item (Named f) (names no_fields f) ∷ operand_item no_letters o ∷ []) (more_closed (with_field no_fields f) (with_operand no_letters o) (h.0, b)) a h.2)
 first_binders f o from mid to xs ys zs a e (Err (Faulty x)) h =
-    within (List Binder × Bool) (List Binder × Bool) (more_closed (with_field no_fields f) (with_operand no_letters o)) (any (List Binder × Bool)) binders_closed (any (List Binder × Bool)) (item (Named f) (names no_fields f) ∷ operand_item no_letters o ∷ [])
+    within (List Binder × Ending) (List Binder × Ending) (more_closed (with_field no_fields f) (with_operand no_letters o)) (any (List Binder × Ending)) binders_closed (any (List Binder × Ending)) (item (Named f) (names no_fields f) ∷ operand_item no_letters o ∷ [])
     (λ y. (binder f o ∷ y.0, y.1)) (λ _. []) (λ y. ap (λ l. item (Named f) (names no_fields f) ∷ operand_item no_letters o ∷ l) (sym (append-nil (more_closed (with_field no_fields f) (with_operand no_letters o) y))))
     (λ y u v _ q. let i = inv_first f o y.0 y.1 u v q in (i.0, i.1, closed i.0 i.1, i.2)) from mid x.reason x.place a h
 first_binders f o from mid to xs ys zs a e (Err NoMemory) h = tt
 
 -- Conditions.
 closes : (c : Condition) (t : Terminal) (u : List Terminal) → (t ≡ CloseSquare) → Fits ConditionStops c (t ∷ u)
-closes c t u e = stops ConditionStops c t u (sum_ends c.right t (λ q. let z : ◌≡◌ {A = ℕ} 0 1 = cc in omega arith) (λ q. let z : ◌≡◌ {A = ℕ} 0 1 = cc in omega arith))
+closes c t u e = stops ConditionStops c t u (sum_ends c.right t (λ q. cc) (λ q. cc))
 
 parts : (c : Condition) (t : Terminal) (u : List Terminal) → (t ≡ Comma) → Fits ConditionStops c (t ∷ u)
-parts c t u e = stops ConditionStops c t u (sum_ends c.right t (λ q. let z : ◌≡◌ {A = ℕ} 0 1 = cc in omega arith) (λ q. let z : ◌≡◌ {A = ℕ} 0 1 = cc in omega arith))
+parts c t u e = stops ConditionStops c t u (sum_ends c.right t (λ q. cc) (λ q. cc))
 
 pub inv_condition : (k : ℕ) (s : Letters) (c : Condition) (cs : List Condition) (u v : List Terminal) → tokens_of (conditions_items k s c cs) ++ u ≡ v → (x : Condition) × (w : List Terminal) × (Fits ConditionStops x w) × (v ≡ tokens_of (condition_items k s x) ++ w)
 inv_condition k s c [] u v e = (c, CloseSquare ∷ u, closes c CloseSquare u refl, sym e ∙ flat (condition_items k s c) (mark CloseSquare) [] u)
@@ -146,22 +139,31 @@ inv_rest : (k : ℕ) (s : Letters) (a : Condition) (c : Condition) (cs : List Co
     → (x : Condition × List Condition) × (w : List Terminal) × (v ≡ tokens_of (conditions_closed (k + 1) s x) ++ w)
 inv_rest k s a c [] u v e =
     let q = (condition_code k s c a (CloseSquare ∷ u) (Comma ∷ v) (closes c CloseSquare u refl) (parts a Comma v refl) (sym (flat (condition_items k s c) (mark CloseSquare) [] u) ∙ e)).1 in
-    let z : ◌≡◌ {A = ℕ} 0 1 = cc in absurd (omega arith)
+    absurd (cc)
 inv_rest k s a c (d ∷ ds) u v e =
     let w = tokens_of (conditions_items (k + 1) s d ds) ++ u in
     let q = (condition_code k s c a (Comma ∷ w) (Comma ∷ v) (parts c Comma w refl) (parts a Comma v refl) (sym (flat (condition_items k s c) (mark Comma) (conditions_items (k + 1) s d ds) u) ∙ e)).1 in
     let h : w ≡ v = cc in
     ((d, ds), u, sym h)
 
+-- The conditions from the k-th on were read behind xs, which are ys now.
+abbrev pub ToldMore : ℕ → Letters → List Lexeme → Result (Unit {0}) Refusal → List Lexeme → List Condition → List Condition → Type 0
+ToldMore k s from (Ok u) to xs ys = (c : Condition) × (cs : List Condition) × (ys ≡ xs ++ (c ∷ cs)) × Reads from (conditions_items k s c cs) to
+ToldMore k s from (Err (Faulty e)) to xs ys = Fails (Condition × List Condition) (conditions_closed k s) (any (Condition × List Condition)) from e.reason e.place
+ToldMore k s from (Err NoMemory) to xs ys = Unit {0}
+
+pub move_number : (k k' : ℕ) (s : Letters) (from : List Lexeme) (r : Result (Unit {0}) Refusal) (to : List Lexeme) (xs ys : List Condition) → k ≡ k' → ToldMore k s from r to xs ys → ToldMore k' s from r to xs ys
+move_number k k' s from r to xs ys e h = subst (λ j. ToldMore j s from r to xs ys) e h
+
 -- one condition more, and then what the rest gave
 pub more_conditions : (k : ℕ) (s : Letters) (a : Condition) (from mid to : List Lexeme) (xs ys zs : List Condition) → Reads from (condition_items k s a ++ (mark Comma ∷ [])) mid → ys ≡ xs ++ (a ∷ [])
-    → (r : Result (Unit {0}) Refusal) → ToldConditions (k + 1) s mid r to ys zs → ToldConditions k s from r to xs zs
+    → (r : Result (Unit {0}) Refusal) → ToldMore (k + 1) s mid r to ys zs → ToldMore k s from r to xs zs
 more_conditions k s a from mid to xs ys zs d e (Ok u) h = (
   a,
   h.0 ∷ h.1,
   h.2 ∙ ap (λ l. l ++ (h.0 ∷ h.1)) e ∙ append_assoc xs (a ∷ []) (h.0 ∷ h.1),
   alike from to ((condition_items k s a ++ (mark Comma ∷ [])) ++ conditions_items (k + 1) s h.0 h.1) (condition_items k s a ++ (mark Comma ∷ conditions_items (k + 1) s h.0 h.1))
-      (append_assoc (condition_items k s a) (mark Comma ∷ []) (conditions_items (k + 1) s h.0 h.1)) (then from mid to (condition_items k s a ++ (mark Comma ∷ [])) (conditions_items (k + 1) s h.0 h.1) d h.3),
+      (append_assoc (condition_items k s a) (mark Comma ∷ []) (conditions_items (k + 1) s h.0 h.1)) (read_on from mid to (condition_items k s a ++ (mark Comma ∷ [])) (conditions_items (k + 1) s h.0 h.1) d h.3),
 )
 more_conditions k s a from mid to xs ys zs d e (Err (Faulty x)) h =
     within (Condition × List Condition) (Condition × List Condition) (conditions_closed (k + 1) s) (any (Condition × List Condition)) (conditions_closed k s) (any (Condition × List Condition)) (condition_items k s a ++ (mark Comma ∷ []))
@@ -171,14 +173,10 @@ more_conditions k s a from mid to xs ys zs d e (Err (Faulty x)) h =
 more_conditions k s a from mid to xs ys zs d e (Err NoMemory) h = tt
 
 -- a sound condition is one of the first four
-in_limit : (a : Bool) (x : Option Reason) → cond a (Some PastLimit) x ≡ None → a ≡ false
-in_limit true x e = let z : ◌≡◌ {A = ℕ} 0 1 = cc in absurd (omega arith)
-in_limit false x e = refl
-
 sound_part : (k : ℕ) (s : Letters) (p : Part) (M : List Item) → AllSound (part_items k s p ++ M) → k ≤ 4
-sound_part k s (part.Number n) M h = ltb-false 4 k (in_limit (ltb 4 k) None h.0)
-sound_part k s (part.Bound l) M h = ltb-false 4 k (in_limit (ltb 4 k) (cond (has s l) None (Some Unbound)) h.0)
-sound_part k s (part.Product n l) M h = ltb-false 4 k (in_limit (ltb 4 k) None h.0)
+sound_part k s (part.Number n) M h = ltb-false 4 k (within_limit (nat_lt 4 k) None h.0)
+sound_part k s (part.Bound l) M h = ltb-false 4 k (within_limit (nat_lt 4 k) (if has s l then None else Some Unbound) h.0)
+sound_part k s (part.Product n l) M h = ltb-false 4 k (within_limit (nat_lt 4 k) None h.0)
 
 sound_sum : (k : ℕ) (s : Letters) (x : Sum) (M : List Item) → AllSound (sum_items k s x ++ M) → k ≤ 4
 sound_sum k s (One p) M h = sound_part k s p M h
@@ -189,7 +187,7 @@ pub few_conditions : (k : ℕ) (s : Letters) (c : Condition) → AllSound (condi
 few_conditions k s c h = sound_sum k s c.left _ h
 
 -- the sets as the code made them
-pub move_sets : (fs fs' : Fields) (ls ls' : Letters) (from to : List Lexeme) (xs ys : List Binder) (r : Result Bool Refusal) → fs ≡ fs' → ls ≡ ls' → ToldBinders (more_closed fs ls) from r to xs ys → ToldBinders (more_closed fs' ls') from r to xs ys
+pub move_sets : (fs fs' : Fields) (ls ls' : Letters) (from to : List Lexeme) (xs ys : List Binder) (r : Result Ending Refusal) → fs ≡ fs' → ls ≡ ls' → ToldBinders (more_closed fs ls) from r to xs ys → ToldBinders (more_closed fs' ls') from r to xs ys
 move_sets fs fs' ls ls' from to xs ys r e f h = subst (λ b. ToldBinders (more_closed fs' b) from r to xs ys) f (subst (λ a. ToldBinders (more_closed a ls) from r to xs ys) e h)
 
 pub move_operand : (ls ls' : Letters) (from : List Lexeme) (r : Reason) (p : ℕ) → ls ≡ ls' → Fails Operand (operand_items ls) (any Operand) from r p → Fails Operand (operand_items ls') (any Operand) from r p

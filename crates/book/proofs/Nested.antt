@@ -1,7 +1,5 @@
 -- How rules are made up of their parts.
-use Rattle.std.proofs.Common.{◌≡◌, ℕ, false, List, [], ◌∷◌, ◌++◌, Err, sym, refl, ap, ◌∙◌, subst, append_assoc, append-nil, arith}
-use Rattle.book.specs.declared.openings.Expected.{Expected}
-use Rattle.book.specs.declared.openings.Expected.TheVariants as expected
+use Rattle.std.proofs.Common.{◌≡◌, ℕ, false, List, [], ◌∷◌, ◌++◌, Err, sym, refl, ap, ◌∙◌, subst, append_assoc, append-nil}
 use Rattle.book.specs.declared.openings.Opening.{Opening}
 use Rattle.book.specs.declared.openings.Opening.TheVariants as opening
 use Rattle.book.specs.declared.refusals.Reason.{Reason}
@@ -14,9 +12,10 @@ use Rattle.book.specs.declared.terminals.Terminal.{Terminal}
 use Rattle.book.specs.declared.terminals.Terminal.TheVariants.{Duty, Before, Trigger, Until, Then, Joint, Open, Close}
 use Rattle.book.specs.Rules.{Pattern, never, Rule, duty, trigger, bracket}
 use Rattle.book.specs.Sets.{with_pattern}
-use Rattle.book.specs.Grammar.{Item, mark, pattern_items, Spot, deeper, later, size, rule_items, tokens_of}
+use Rattle.book.specs.Grammar.{Item, mark, pattern_items, Spot, deeper, later, rule_items, tokens_of}
+use Rattle.book.specs.Sizes.{nodes as size}
 use Rattle.book.specs.Text.{Lexeme}
-use Rattle.book.specs.Nodes.{expected_terminal, opening_terminal, opening_items}
+use Rattle.book.specs.Nodes.{opening_terminal, opening_items}
 use Rattle.book.specs.declared.refusals.Refusal.{Refusal}
 use Rattle.book.specs.declared.rules.Rule as held
 use Rattle.book.specs.Trees.{pure_rule}
@@ -24,13 +23,6 @@ use Rattle.book.specs.Readers.{is_end, ToldBy}
 use Rattle.book.specs.Reading.{any, Reads, Fails}
 use Rattle.book.proofs.Compose.{closed, flat, within}
 use Rattle.book.proofs.Codes.{pattern_code, rule_code}
-
-pub expected_goes : (e : Expected) → is_end (expected_terminal e) ≡ false
-expected_goes expected.Before = refl
-expected_goes expected.Until = refl
-expected_goes expected.Then = refl
-expected_goes expected.Close = refl
-expected_goes expected.Semicolon = refl
 
 pub opening-goes : (o : Opening) → is_end (opening_terminal o) ≡ false
 opening-goes (opening.Duty k) = refl
@@ -84,8 +76,8 @@ duty_view s k (duty k' p q) u v e =
     let Q = pattern_items s.bound q in
     let h : tokens_of (P ++ (mark Before ∷ Q)) ++ u ≡ v = cc in
     (p, q, sym h ∙ flat P (mark Before) Q u)
-duty_view s k (trigger k' p q r) u v e = let z : ◌≡◌ {A = ℕ} 0 1 = cc in absurd (omega arith)
-duty_view s k (bracket k' r t) u v e = let z : ◌≡◌ {A = ℕ} 0 1 = cc in absurd (omega arith)
+duty_view s k (trigger k' p q r) u v e = absurd (cc)
+duty_view s k (bracket k' r t) u v e = absurd (cc)
 
 pub inv_act : (s : Spot) (k : DutyKind) (y : Rule) (u v : List Terminal) → tokens_of (rule_items s y) ++ u ≡ Duty k ∷ v → (x : Pattern) × (w : List Terminal) × (v ≡ tokens_of (pattern_items s.bound x) ++ w)
 inv_act s k y u v e = let d = duty_view s k y u v e in (d.0, _, d.2)
@@ -108,14 +100,14 @@ inner s p = deeper s (with_pattern s.bound p)
 
 trigger_view : (s : Spot) (k : TriggerKind) (y : Rule) (u v : List Terminal) → tokens_of (rule_items s y) ++ u ≡ Trigger k ∷ v
     → (p : Pattern) × (q : Pattern) × (r : Rule) × (v ≡ tokens_of (pattern_items s.bound p) ++ Until ∷ (tokens_of (pattern_items s.bound q) ++ Then ∷ (tokens_of (rule_items (inner s p) r) ++ u)))
-trigger_view s k (duty k' p q) u v e = let z : ◌≡◌ {A = ℕ} 0 1 = cc in absurd (omega arith)
+trigger_view s k (duty k' p q) u v e = absurd (cc)
 trigger_view s k (trigger k' p q r) u v e =
     let P = pattern_items s.bound p in
     let Q = pattern_items s.bound q in
     let R = rule_items (inner s p) r in
     let h : tokens_of (P ++ (mark Until ∷ (Q ++ (mark Then ∷ R)))) ++ u ≡ v = cc in
     (p, q, r, sym h ∙ flat P (mark Until) (Q ++ (mark Then ∷ R)) u ∙ ap (λ l. tokens_of P ++ Until ∷ l) (flat Q (mark Then) R u))
-trigger_view s k (bracket k' r t) u v e = let z : ◌≡◌ {A = ℕ} 0 1 = cc in absurd (omega arith)
+trigger_view s k (bracket k' r t) u v e = absurd (cc)
 
 pub inv_start : (s : Spot) (k : TriggerKind) (y : Rule) (u v : List Terminal) → tokens_of (rule_items s y) ++ u ≡ Trigger k ∷ v → (x : Pattern) × (w : List Terminal) × (v ≡ tokens_of (pattern_items s.bound x) ++ w)
 inv_start s k y u v e = let d = trigger_view s k y u v e in (d.0, _, d.3)
@@ -165,8 +157,8 @@ second s r = later (deeper s s.bound) (size r)
 
 bracket_view : (s : Spot) (y : Rule) (u v : List Terminal) → tokens_of (rule_items s y) ++ u ≡ Open ∷ v
     → (k : BracketKind) × (r : Rule) × (t : Rule) × (v ≡ tokens_of (rule_items (first s) r) ++ Joint k ∷ (tokens_of (rule_items (second s r) t) ++ Close ∷ u))
-bracket_view s (duty k p q) u v e = let z : ◌≡◌ {A = ℕ} 0 1 = cc in absurd (omega arith)
-bracket_view s (trigger k p q r) u v e = let z : ◌≡◌ {A = ℕ} 0 1 = cc in absurd (omega arith)
+bracket_view s (duty k p q) u v e = absurd (cc)
+bracket_view s (trigger k p q r) u v e = absurd (cc)
 bracket_view s (bracket k r t) u v e =
     let R = rule_items (first s) r in
     let T = rule_items (second s r) t in

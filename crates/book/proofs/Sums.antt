@@ -1,5 +1,6 @@
 -- Parts and sums: what is written as one, up to a token that does not go on with it, is written as no other.
-use Rattle.std.proofs.Common.{◌≡◌, ℕ, List, ◌∷◌, ◌++◌, sym, refl, ◌∙◌, arith}
+use Rattle.std.proofs.Common.{◌≡◌, ℕ, List, ◌∷◌, ◌++◌, sym, refl, ◌∙◌}
+use Rattle.book.specs.Sets.{Letters}
 use Rattle.book.specs.declared.terms.Letter.{Letter}
 use Rattle.book.specs.declared.terms.Part.{Part}
 use Rattle.book.specs.declared.terms.Part.TheVariants.{Number, Bound, Product}
@@ -7,7 +8,6 @@ use Rattle.book.specs.declared.terms.Sign.{Sign}
 use Rattle.book.specs.declared.terms.Sum.{Sum}
 use Rattle.book.specs.declared.terms.Sum.TheVariants.{One, Two, Three}
 use Rattle.book.specs.declared.terms.Condition.{Condition}
-use Rattle.book.specs.declared.sets.Letters.{Letters}
 use Rattle.book.specs.declared.terminals.Terminal.{Terminal}
 use Rattle.book.specs.declared.terminals.Terminal.TheVariants.{Lettered, Numeral, Compare, Plus, Times}
 use Rattle.book.specs.Grammar.{mark, part_items, sum_items, condition_items, tokens_of}
@@ -17,13 +17,13 @@ use Rattle.book.proofs.Compose.{closed, stops, flat}
 
 part_code : (k : ℕ) (s : Letters) (p q : Part) (u w : List Terminal) → Fits PartStops p u → Fits PartStops q w → tokens_of (part_items k s p) ++ u ≡ tokens_of (part_items k s q) ++ w → (p ≡ q) × (u ≡ w)
 part_code k s (Number n) (Number m) u w f g e = (cc, cc)
-part_code k s (Number n) (Bound l) u w f g e = let z : ◌≡◌ {A = ℕ} 0 1 = cc in absurd (omega arith)
+part_code k s (Number n) (Bound l) u w f g e = absurd (cc)
 part_code k s (Number n) (Product m l) u w f g e = absurd (f Times (Lettered l ∷ w) (cc) refl)
-part_code k s (Bound l) (Number m) u w f g e = let z : ◌≡◌ {A = ℕ} 0 1 = cc in absurd (omega arith)
+part_code k s (Bound l) (Number m) u w f g e = absurd (cc)
 part_code k s (Bound l) (Bound m) u w f g e = (cc, cc)
-part_code k s (Bound l) (Product m j) u w f g e = let z : ◌≡◌ {A = ℕ} 0 1 = cc in absurd (omega arith)
+part_code k s (Bound l) (Product m j) u w f g e = absurd (cc)
 part_code k s (Product n l) (Number m) u w f g e = absurd (g Times (Lettered l ∷ u) (cc) refl)
-part_code k s (Product n l) (Bound m) u w f g e = let z : ◌≡◌ {A = ℕ} 0 1 = cc in absurd (omega arith)
+part_code k s (Product n l) (Bound m) u w f g e = absurd (cc)
 part_code k s (Product n l) (Product m j) u w f g e = (cc, cc)
 
 -- a token that is no `*` ends each part, and one that is no `+` either each sum
@@ -38,10 +38,10 @@ sum_ends (Two p q) t h g = (g, part_ends q t h)
 sum_ends (Three p q r) t h g = part_ends r t h
 
 plus_ends : (p : Part) (u : List Terminal) → Fits PartStops p (Plus ∷ u)
-plus_ends p u = stops PartStops p Plus u (part_ends p Plus (λ e. let z : ◌≡◌ {A = ℕ} 0 1 = cc in omega arith))
+plus_ends p u = stops PartStops p Plus u (part_ends p Plus (λ e. cc))
 
 pub compare_ends : (x : Sum) (g : Sign) (u : List Terminal) → Fits SumStops x (Compare g ∷ u)
-compare_ends x g u = stops SumStops x (Compare g) u (sum_ends x (Compare g) (λ e. let z : ◌≡◌ {A = ℕ} 0 1 = cc in omega arith) (λ e. let z : ◌≡◌ {A = ℕ} 0 1 = cc in omega arith))
+compare_ends x g u = stops SumStops x (Compare g) u (sum_ends x (Compare g) (λ e. cc) (λ e. cc))
 
 pub sum_code : (k : ℕ) (s : Letters) (x y : Sum) (u w : List Terminal) → Fits SumStops x u → Fits SumStops y w → tokens_of (sum_items k s x) ++ u ≡ tokens_of (sum_items k s y) ++ w → (x ≡ y) × (u ≡ w)
 sum_code k s (One p) (One p') u w f g e =
@@ -82,13 +82,8 @@ part_first k s (Product n l) t u more e a b = a n (cc)
 -- after `n *` comes a letter
 pub inv_product : (k : ℕ) (s : Letters) (n : ℕ) (y : Part) (u v : List Terminal) → Fits PartStops y u → tokens_of (part_items k s y) ++ u ≡ Numeral n ∷ Times ∷ v → (x : Letter) × (w : List Terminal) × (Fits (any Letter) x w) × (v ≡ Lettered x ∷ w)
 inv_product k s n (Number m) u v f e = absurd (f Times v (cc) refl)
-inv_product k s n (Bound l) u v f e = let z : ◌≡◌ {A = ℕ} 0 1 = cc in absurd (omega arith)
+inv_product k s n (Bound l) u v f e = absurd (cc)
 inv_product k s n (Product m l) u v f e = (l, u, closed l u, cc)
-
-pub not_number : (p : Part) (t : Terminal) → ((n : ℕ) → p ≡ Number n → ⊥) → PartStops p t
-not_number (Number n) t h = absurd (h n refl)
-not_number (Bound l) t h = tt
-not_number (Product n l) t h = tt
 
 -- a sum begins with a part
 pub inv_one : (k : ℕ) (s : Letters) (y : Sum) (u v : List Terminal) → Fits SumStops y u → tokens_of (sum_items k s y) ++ u ≡ v → (x : Part) × (w : List Terminal) × (Fits PartStops x w) × (v ≡ tokens_of (part_items k s x) ++ w)

@@ -1,96 +1,82 @@
 -- How a book is made up of its rules, and what the reader of a whole text found.
-use Rattle.std.proofs.Common.{◌≡◌, ℕ, ◌+◌, ◌≤◌, Bool, true, false, cond, ◌&&◌, ◌||◌, ltb, leb, List, [], ◌∷◌, ◌++◌, length, Some, None, Ok, Err, codes, Result, sym, refl, ap, ◌∙◌, subst, append_assoc, append-nil, arith, ltb-false}
+use Rattle.std.proofs.Common.{◌≡◌, ℕ, ◌+◌, ◌≤◌, Bool, true, false, if◌then◌else◌, ◌&&◌, nat_le, List, [], ◌∷◌, ◌++◌, length, Some, None, Ok, Err, not, Option, Result, sym, refl, ap, ◌∙◌, subst, append_assoc, append-nil}
+use Rattle.std.proofs.lemmas.Bool.{not-true}
+use Rattle.std.proofs.lemmas.List.Sums.{AllPass-from_list_all}
+use Rattle.std.proofs.lemmas.Map.Entries.{All-lookup}
+use Rattle.std.specs.Prelude.{IsTrue, is_none}
+use Rattle.std.specs.List.{list_all}
+use Rattle.std.specs.Option.{IfSome, ok_or}
+use Rattle.std.specs.Str.{bytes_eq}
 use Rattle.tokens.specs.declared.token.Symbol.{Symbol}
 use Rattle.tokens.specs.declared.token.Symbol.TheVariants as symbols
-use Rattle.tokens.specs.Text.{Stretch, word, number, symbol, stray, end, Placed, same}
+use Rattle.tokens.specs.Text.{Stretch, word, number, symbol, stray, end, Placed}
 use Rattle.tokens.specs.Text as text
 use Rattle.book.specs.declared.book.Book.{Book}
-use Rattle.book.specs.declared.openings.Expected.TheVariants as expected
 use Rattle.book.specs.declared.refusals.Reason.{Reason}
-use Rattle.book.specs.declared.refusals.Reason.TheVariants.{PastLimit}
+use Rattle.book.specs.declared.refusals.Reason.TheVariants.{NoToken}
 use Rattle.book.specs.declared.refusals.Refusal.{Refusal}
 use Rattle.book.specs.declared.refusals.Refusal.TheVariants.{Faulty, NoMemory}
 use Rattle.book.specs.declared.rules.Rule as held
 use Rattle.book.specs.declared.terminals.Terminal.{Terminal}
 use Rattle.book.specs.declared.terminals.Terminal.TheVariants.{Semicolon, End}
 use Rattle.book.specs.Rules.{Rule, duty, trigger, bracket}
-use Rattle.book.specs.Grammar.{Item, mark, Spot, top, size, rule_items, book_items, items, tokens_of}
-use Rattle.book.specs.Text.{Got, good, bad, Lexeme, lexeme, letter_of, field_of, word_of, number_of, leading_zero, value_from, meaning, meanings, lexemes}
+use Rattle.book.specs.Grammar.{Item, mark, Spot, top, rule_items, book_items, items, tokens_of}
+use Rattle.book.specs.Sizes.{nodes as size}
+use Rattle.book.specs.Text.{Got, Lexeme, lexeme, words, word_of, number_of, leading_zero, value_from, meaning, meanings, lexemes}
 use Rattle.book.specs.Faults as faults
 use Rattle.book.specs.Faults.{fault, AllSound, gots, meant, Accepted, FaultAt, Refused, first, long}
-use Rattle.book.specs.Kept.{is_none, sound_items}
-use Rattle.book.specs.Nodes.{expected_items}
 use Rattle.book.specs.Reading.{Fits, any, Reads, FaultIn, unread, strange, past, Fails}
-use Rattle.book.specs.Readers.{is_end, ToldBy}
+use Rattle.book.specs.Readers.{is_end, only_items, ToldBy}
 use Rattle.book.specs.Trees.{pure_rule, pure_rules}
 use Rattle.book.specs.Whole.{ToldRules, Told, Answered, pure_book}
-use Rattle.book.proofs.Compose.{closed, flat, then, alike}
+use Rattle.book.proofs.Compose.{closed, flat, read_on, alike}
 use Rattle.book.proofs.Codes.{rule_code}
 use Rattle.book.proofs.Nested.{inside}
 use Rattle.book.proofs.Once.{one_book, apart, one_fault}
 
 -- No stretch but the end means the end.
 pub data Goes : Got → Type 0 where
-  yes : {t : Terminal} → is_end t ≡ false → Goes (good t)
-  no : {r : Reason} → Goes (bad r)
+  yes : {t : Terminal} → is_end t ≡ false → Goes (Ok t)
+  no : {r : Reason} → Goes (Err r)
 
-pick : (b : Bool) {x y : Got} → Goes x → Goes y → Goes (cond b x y)
+pick : (b : Bool) {x y : Got} → Goes x → Goes y → Goes (if b then x else y)
 pick true p q = p
 pick false p q = q
 
-letter_goes : (w : List ℕ) → Goes (letter_of w)
-unfolding letter_of
-letter_goes w =
-    pick (same w (codes "A")) (yes refl) (pick (same w (codes "B")) (yes refl) (pick (same w (codes "C")) (yes refl) (pick (same w (codes "D")) (yes refl)
-    (pick (same w (codes "E")) (yes refl) (pick (same w (codes "F")) (yes refl) (pick (same w (codes "G")) (yes refl) (pick (same w (codes "H")) (yes refl) no)))))))
+known_goes : (o : Option Terminal) → IfSome o (λ t. not (is_end t) ≡ true) → Goes (ok_or o NoToken)
+known_goes None h = no
+known_goes (Some t) h = yes (not-true (is_end t) h)
 
-field_goes : (w : List ℕ) → Goes (field_of w)
-unfolding field_of
-field_goes w =
-    pick (same w (codes "time")) (yes refl) (pick (same w (codes "kind")) (yes refl) (pick (same w (codes "machine")) (yes refl)
-    (pick (same w (codes "crew")) (yes refl) (pick (same w (codes "run")) (yes refl) (pick (same w (codes "reading")) (yes refl) (letter_goes w))))))
-
+-- no word means the end
 pub word-goes : (w : List ℕ) → Goes (word_of w)
 unfolding word_of
-word-goes w =
-    pick (same w (codes "must")) (yes refl) (pick (same w (codes "mustnot")) (yes refl) (pick (same w (codes "before")) (yes refl) (pick (same w (codes "each")) (yes refl)
-    (pick (same w (codes "once")) (yes refl) (pick (same w (codes "until")) (yes refl) (pick (same w (codes "then")) (yes refl) (pick (same w (codes "else")) (yes refl)
-    (pick (same w (codes "and")) (yes refl) (pick (same w (codes "never")) (yes refl) (pick (same w (codes "if")) (yes refl) (field_goes w)))))))))))
+word-goes w = known_goes _ (All-lookup (λ t. not (is_end t) ≡ true) (λ k. bytes_eq k w) words (AllPass-from_list_all (λ e. not (is_end e.1)) words refl))
 
 pub number-goes : (w : List ℕ) → Goes (number_of w)
 unfolding number_of
-number-goes w = pick (leading_zero w) no (pick (leb (value_from 0 w) 9999999) (yes refl) no)
+number-goes w = pick (leading_zero w) no (pick (nat_le (value_from 0 w) 9999999) (yes refl) no)
 
 pub symbol-goes : (s : Symbol) → Goes (meaning (symbol s))
 symbol-goes symbols.AtMost = yes refl
-symbol-goes symbols.AtLeast = yes refl
-symbol-goes symbols.Equal = yes refl
-symbol-goes symbols.Plus = yes refl
-symbol-goes symbols.Times = yes refl
-symbol-goes symbols.Comma = yes refl
-symbol-goes symbols.Semicolon = yes refl
-symbol-goes symbols.Open = yes refl
-symbol-goes symbols.Close = yes refl
-symbol-goes symbols.OpenSquare = yes refl
-symbol-goes symbols.CloseSquare = yes refl
+symbol-goes _ = yes refl
 
 goes : (s : Stretch) → text.is_end s ≡ false → Goes (meaning s)
 goes (word w) h = word-goes w
 goes (number w) h = number-goes w
 goes (symbol s) h = symbol-goes s
 goes stray h = no
-goes end h = let z : ◌≡◌ {A = ℕ} 0 1 = cc in absurd (omega arith)
+goes end h = absurd (cc)
 
-pub out : (g : Got) → Goes g → g ≡ good End → ⊥
-out g (yes {t} h) e = let q : t ≡ End = cc in let z : ◌≡◌ {A = ℕ} 0 1 = cc in omega arith
-out g no e = let z : ◌≡◌ {A = ℕ} 0 1 = cc in omega arith
+pub out : (g : Got) → Goes g → g ≡ Ok End → ⊥
+out g (yes {t} h) e = let q : t ≡ End = cc in cc
+out g no e = cc
 
 -- The text goes on.
 pub record GoesOn (from : List Lexeme) : Type 0 where
   pub head : Lexeme
   pub rest : List Lexeme
   pub split : from ≡ head ∷ rest
-  pub more : head.got ≡ good End → ⊥
+  pub more : head.got ≡ Ok End → ⊥
 
 pub goes_on : (xs : List Placed) (x : Placed) (rest : List Placed) → xs ≡ x ∷ rest → text.is_end x.stretch ≡ false → GoesOn (meanings xs)
 goes_on xs x rest e h = record { head = lexeme x.place (meaning x.stretch); rest = meanings rest; split = ap meanings e; more = out (meaning x.stretch) (goes x.stretch h) }
@@ -103,11 +89,30 @@ at_end xs x rest k n e h f = record {
   sound = (refl, tt);
 }
 
+-- After k rules with n nodes, the rules up to the end were read behind xs, which are ys now.
+abbrev pub ToldRest : ℕ → ℕ → List Lexeme → Result (Unit {0}) Refusal → List held.Rule → List held.Rule → Type 0
+ToldRest k n from (Ok u) xs ys = (rs : List Rule) × (pure_rules ys ≡ pure_rules xs ++ rs) × Reads from (book_items k n rs) []
+ToldRest k n from (Err (Faulty e)) xs ys = Fails (List Rule) (book_items k n) (any (List Rule)) from e.reason e.place
+ToldRest k n from (Err NoMemory) xs ys = Unit {0}
+
+-- no rule was read yet
+pub read-none : (k n : ℕ) (from : List Lexeme) (xs : List held.Rule) (r : Result (Unit {0}) Refusal) (ys : List held.Rule) → k ≡ 0 → xs ≡ [] → ToldRest k n from r xs ys → ToldRest 0 n from r [] ys
+read-none k n from xs r ys e f h = subst (λ l. ToldRest 0 n from r l ys) f (subst (λ j. ToldRest j n from r xs ys) e h)
+
+-- all rules were read
+pub read-all : (from : List Lexeme) (xs : List held.Rule) → ToldRest 0 0 from (Ok tt) [] xs → Reads from (items (pure_rules xs)) []
+read-all from xs h = subst (λ rs. Reads from (items rs) []) (sym h.1) h.2
+
+-- the first fault
+pub rules_failed : (from : List Lexeme) (e : Refusal) (xs ys : List held.Rule) → ToldRest 0 0 from (Err e) xs ys → ToldRules from (Err e)
+rules_failed from (Faulty e) xs ys h = h
+rules_failed from NoMemory xs ys h = tt
+
 -- A rule that failed in a book that goes on.
-first_not_end : (before : List Lexeme) (here : Lexeme) (after from : List Lexeme) (pre : List Item) (t : Terminal) → GoesOn from → from ≡ before ++ here ∷ after → gots before ≡ meant pre → here.got ≡ good t → (u more : List Terminal) → End ∷ u ≡ tokens_of pre ++ t ∷ more → ⊥
+first_not_end : (before : List Lexeme) (here : Lexeme) (after from : List Lexeme) (pre : List Item) (t : Terminal) → GoesOn from → from ≡ before ++ here ∷ after → gots before ≡ meant pre → here.got ≡ Ok t → (u more : List Terminal) → End ∷ u ≡ tokens_of pre ++ t ∷ more → ⊥
 first_not_end [] here after from [] t g s r h u more e = let q = g.split in let i : g.head ≡ here = cc in g.more (cc)
-first_not_end [] here after from (i ∷ pre) t g s r h u more e = let z : ◌≡◌ {A = ℕ} 0 1 = cc in omega arith
-first_not_end (b ∷ before) here after from [] t g s r h u more e = let z : ◌≡◌ {A = ℕ} 0 1 = cc in omega arith
+first_not_end [] here after from (i ∷ pre) t g s r h u more e = cc
+first_not_end (b ∷ before) here after from [] t g s r h u more e = cc
 first_not_end (b ∷ before) here after from (i ∷ pre) t g s r h u more e = let q = g.split in let j : g.head ≡ b = cc in g.more (cc)
 
 rule_fails : (k n : ℕ) (from : List Lexeme) (r : Reason) (p : ℕ) → GoesOn from → Fails Rule (rule_items (top (k + 1) n)) (any Rule) from r p → Fails (List Rule) (book_items k n) (any (List Rule)) from r p
@@ -133,7 +138,7 @@ rule_fails k n from r p g f = record {
     lift h m q unread = unread
     lift h m q (strange {t} no-rule) = strange (book t q no-rule)
       where
-        book : (t : Terminal) → f.here.got ≡ good t → ((x : Rule) (u more : List Terminal) → Fits (any Rule) x u → tokens_of (rule_items (top (k + 1) n) x) ++ u ≡ tokens_of f.pre ++ t ∷ more → ⊥)
+        book : (t : Terminal) → f.here.got ≡ Ok t → ((x : Rule) (u more : List Terminal) → Fits (any Rule) x u → tokens_of (rule_items (top (k + 1) n) x) ++ u ≡ tokens_of f.pre ++ t ∷ more → ⊥)
             → (y : List Rule) (u more : List Terminal) → Fits (any (List Rule)) y u → tokens_of (book_items k n y) ++ u ≡ tokens_of f.pre ++ t ∷ more → ⊥
         book t q no-rule [] u more fits e = first_not_end f.before f.here f.after from f.pre t g f.split f.read q u more e
         book t q no-rule (x ∷ ys) u more fits e =
@@ -141,15 +146,15 @@ rule_fails k n from r p g f = record {
             no-rule x (Semicolon ∷ (tokens_of R ++ u)) more (closed x (Semicolon ∷ (tokens_of R ++ u))) (sym (flat (rule_items (top (k + 1) n) x) (mark Semicolon) R u) ∙ e)
     lift h m q (past x i more e is) = past (x ∷ []) i (more ++ ends x) (ap (λ l. l ++ ends x) e ∙ append_assoc f.pre (i ∷ more) (ends x)) is
 
-pub rule_failed : (k n : ℕ) (from to : List Lexeme) (xs ys : List held.Rule) → GoesOn from → (e : Refusal) → ToldBy held.Rule Rule pure_rule (rule_items (top (k + 1) n)) from (Err e) to → ToldRules k n from (Err e) xs ys
+pub rule_failed : (k n : ℕ) (from to : List Lexeme) (xs ys : List held.Rule) → GoesOn from → (e : Refusal) → ToldBy held.Rule Rule pure_rule (rule_items (top (k + 1) n)) from (Err e) to → ToldRest k n from (Err e) xs ys
 rule_failed k n from to xs ys g (Faulty e) h = rule_fails k n from e.reason e.place g h
 rule_failed k n from to xs ys g NoMemory h = tt
 
 -- After a rule comes a `;`, and then the other rules.
 no_rule_ends : (s : Spot) (a : Rule) (u v : List Terminal) → End ∷ u ≡ tokens_of (rule_items s a) ++ v → ⊥
-no_rule_ends s (duty k p q) u v e = let z : ◌≡◌ {A = ℕ} 0 1 = cc in omega arith
-no_rule_ends s (trigger k p q r) u v e = let z : ◌≡◌ {A = ℕ} 0 1 = cc in omega arith
-no_rule_ends s (bracket k r t) u v e = let z : ◌≡◌ {A = ℕ} 0 1 = cc in omega arith
+no_rule_ends s (duty k p q) u v e = cc
+no_rule_ends s (trigger k p q r) u v e = cc
+no_rule_ends s (bracket k r t) u v e = cc
 
 inv_semicolon : (k n : ℕ) (a : Rule) (y : List Rule) (u v : List Terminal) → tokens_of (book_items k n y) ++ u ≡ tokens_of (rule_items (top (k + 1) n) a) ++ v → (x : Unit {0}) × (w : List Terminal) × (v ≡ Semicolon ∷ w)
 inv_semicolon k n a [] u v e = absurd (no_rule_ends (top (k + 1) n) a u v e)
@@ -157,9 +162,9 @@ inv_semicolon k n a (x ∷ ys) u v e =
     let R = book_items (k + 1) (n + size x) ys in
     (tt, tokens_of R ++ u, (rule_code (top (k + 1) n) a x v (Semicolon ∷ (tokens_of R ++ u)) (sym e ∙ flat (rule_items (top (k + 1) n) x) (mark Semicolon) R u)).1)
 
-pub semicolon_fails : (k n : ℕ) (a : Rule) (from mid : List Lexeme) (r : Reason) (p : ℕ) → Reads from (rule_items (top (k + 1) n) a) mid → Fails (Unit {0}) (expected_items expected.Semicolon) (any (Unit {0})) mid r p → Fails (List Rule) (book_items k n) (any (List Rule)) from r p
+pub semicolon_fails : (k n : ℕ) (a : Rule) (from mid : List Lexeme) (r : Reason) (p : ℕ) → Reads from (rule_items (top (k + 1) n) a) mid → Fails (Unit {0}) (only_items Semicolon) (any (Unit {0})) mid r p → Fails (List Rule) (book_items k n) (any (List Rule)) from r p
 semicolon_fails k n a from mid r p d f =
-    inside (Unit {0}) (List Rule) (expected_items expected.Semicolon) (book_items k n) (rule_items (top (k + 1) n) a) (λ _. a ∷ []) (λ _. mark End ∷ []) (λ _. refl) (inv_semicolon k n a) from mid r p d f
+    inside (Unit {0}) (List Rule) (only_items Semicolon) (book_items k n) (rule_items (top (k + 1) n) a) (λ _. a ∷ []) (λ _. mark End ∷ []) (λ _. refl) (inv_semicolon k n a) from mid r p d f
 
 inv_rules : (k n : ℕ) (a : Rule) (y : List Rule) (u v : List Terminal) → tokens_of (book_items k n y) ++ u ≡ tokens_of (rule_items (top (k + 1) n) a ++ (mark Semicolon ∷ [])) ++ v → (x : List Rule) × (w : List Terminal) × (v ≡ tokens_of (book_items (k + 1) (n + size a) x) ++ w)
 inv_rules k n a [] u v e = absurd (no_rule_ends (top (k + 1) n) a u (Semicolon ∷ v) (e ∙ flat (rule_items (top (k + 1) n) a) (mark Semicolon) [] v))
@@ -177,13 +182,13 @@ pure_++ (x ∷ xs) ys = ap (λ l. pure_rule x ∷ l) (pure_++ xs ys)
 
 -- one rule more, and then what the rest gave
 pub more-rules : (k n m : ℕ) (a : held.Rule) (from mid : List Lexeme) (xs ys zs : List held.Rule) → m ≡ n + size (pure_rule a) → Reads from (rule_items (top (k + 1) n) (pure_rule a) ++ (mark Semicolon ∷ [])) mid → ys ≡ xs ++ (a ∷ [])
-    → (r : Result (Unit {0}) Refusal) → ToldRules (k + 1) m mid r ys zs → ToldRules k n from r xs zs
+    → (r : Result (Unit {0}) Refusal) → ToldRest (k + 1) m mid r ys zs → ToldRest k n from r xs zs
 more-rules k n m a from mid xs ys zs q d e (Ok u) h =
     let A = rule_items (top (k + 1) n) (pure_rule a) in
     let R = book_items (k + 1) (n + size (pure_rule a)) h.0 in (
       pure_rule a ∷ h.0,
       h.1 ∙ ap (λ l. pure_rules l ++ h.0) e ∙ ap (λ l. l ++ h.0) (pure_++ xs (a ∷ [])) ∙ append_assoc (pure_rules xs) (pure_rule a ∷ []) h.0,
-      alike from [] ((A ++ (mark Semicolon ∷ [])) ++ R) (A ++ (mark Semicolon ∷ R)) (append_assoc A (mark Semicolon ∷ []) R) (then from mid [] (A ++ (mark Semicolon ∷ [])) R d (subst (λ z. Reads mid (book_items (k + 1) z h.0) []) q h.2)),
+      alike from [] ((A ++ (mark Semicolon ∷ [])) ++ R) (A ++ (mark Semicolon ∷ R)) (append_assoc A (mark Semicolon ∷ []) R) (read_on from mid [] (A ++ (mark Semicolon ∷ [])) R d (subst (λ z. Reads mid (book_items (k + 1) z h.0) []) q h.2)),
     )
 more-rules k n m a from mid xs ys zs q d e (Err (Faulty x)) h =
     let A = rule_items (top (k + 1) n) (pure_rule a) in
@@ -191,19 +196,6 @@ more-rules k n m a from mid xs ys zs q d e (Err (Faulty x)) h =
     (λ y. ap (λ l. A ++ (mark Semicolon ∷ l)) (sym (append-nil (book_items (k + 1) (n + size (pure_rule a)) y))) ∙ sym (append_assoc A (mark Semicolon ∷ []) (book_items (k + 1) (n + size (pure_rule a)) y ++ [])))
     (inv_rules k n (pure_rule a)) from mid x.reason x.place d (subst (λ z. Fails (List Rule) (book_items (k + 1) z) (any (List Rule)) mid x.reason x.place) q h)
 more-rules k n m a from mid xs ys zs q d e (Err NoMemory) h = tt
-
--- a sound rule is one of the first sixteen
-in_limit : (a b c : Bool) → cond (a || b || c) (Some PastLimit) None ≡ None → a ≡ false
-in_limit true true true e = let z : ◌≡◌ {A = ℕ} 0 1 = cc in absurd (omega arith)
-in_limit true true false e = let z : ◌≡◌ {A = ℕ} 0 1 = cc in absurd (omega arith)
-in_limit true false true e = let z : ◌≡◌ {A = ℕ} 0 1 = cc in absurd (omega arith)
-in_limit true false false e = let z : ◌≡◌ {A = ℕ} 0 1 = cc in absurd (omega arith)
-in_limit false b c e = refl
-
-pub few-rules : (s : Spot) (r : Rule) → AllSound (rule_items s r) → s.rule ≤ 16
-few-rules s (duty k p q) h = ltb-false 16 s.rule (in_limit (ltb 16 s.rule) (ltb 64 (s.nodes + 1)) (ltb 8 (s.around + 1)) h.0)
-few-rules s (trigger k p q r) h = ltb-false 16 s.rule (in_limit (ltb 16 s.rule) (ltb 64 (s.nodes + 1)) (ltb 8 (s.around + 1)) h.0)
-few-rules s (bracket k r t) h = ltb-false 16 s.rule (in_limit (ltb 16 s.rule) (ltb 64 (s.nodes + 1)) (ltb 8 (s.around + 1)) h.0)
 
 -- The whole text.
 pub accepted : (t : List ℕ) (b : List Rule) → length t ≤ 8192 → Reads (lexemes t) (items b) [] → Accepted t b
@@ -230,9 +222,9 @@ refused t r p s f = first s (record {
   fault = fault_of f.pre f.here.got r f.fault;
 })
 
-pub failed : (t : List ℕ) (xs ys : List held.Rule) → length t ≤ 8192 → (e : Refusal) → ToldRules 0 0 (lexemes t) (Err e) xs ys → Told t (Err e)
-failed t xs ys s (Faulty e) h = refused t e.reason e.place s h
-failed t xs ys s NoMemory h = tt
+pub failed : (t : List ℕ) → length t ≤ 8192 → (e : Refusal) → ToldRules (lexemes t) (Err e) → Told t (Err e)
+failed t s (Faulty e) h = refused t e.reason e.place s h
+failed t s NoMemory h = tt
 
 -- what was told is the one answer
 pub answered : (t : List ℕ) (r : Result Book Refusal) → Told t r → Answered t r
@@ -241,23 +233,20 @@ answered t (Err (Faulty e)) h = record { told = h; book = λ b a. apart t b e.re
 answered t (Err NoMemory) h = record { told = tt; book = λ _ _. tt; refusal = λ _ _ _. tt }
 
 -- soundness as a test
-pub sound-kept : (is : List Item) → AllSound is → sound_items is ≡ true
+pub sound-kept : (is : List Item) → AllSound is → IsTrue (list_all (λ i. is_none (fault i)) is)
 sound-kept [] h = refl
-sound-kept (i ∷ is) h = ap (λ o. is_none o && sound_items is) h.0 ∙ sound-kept is h.1
+sound-kept (i ∷ is) h = ap (λ o. is_none o && list_all (λ i. is_none (fault i)) is) h.0 ∙ sound-kept is h.1
 
 -- the same ahead, said otherwise
-pub move_rules : (k n : ℕ) (from from' : List Lexeme) (r : Result (Unit {0}) Refusal) (xs ys : List held.Rule) → from ≡ from' → ToldRules k n from r xs ys → ToldRules k n from' r xs ys
-move_rules k n from from' r xs ys e h = subst (λ l. ToldRules k n l r xs ys) e h
-
-pub move_fails : (k n : ℕ) (from from' : List Lexeme) (r : Reason) (p : ℕ) → from ≡ from' → Fails (List Rule) (book_items k n) (any (List Rule)) from r p → Fails (List Rule) (book_items k n) (any (List Rule)) from' r p
-move_fails k n from from' r p e h = subst (λ l. Fails (List Rule) (book_items k n) (any (List Rule)) l r p) e h
+pub move_rest : (k n : ℕ) (from from' : List Lexeme) (r : Result (Unit {0}) Refusal) (xs ys : List held.Rule) → from ≡ from' → ToldRest k n from r xs ys → ToldRest k n from' r xs ys
+move_rest k n from from' r xs ys e h = subst (λ l. ToldRest k n l r xs ys) e h
 
 pub move_goes : (from from' : List Lexeme) → from ≡ from' → GoesOn from → GoesOn from'
 move_goes from from' e h = subst GoesOn e h
 
 -- the rules that were read are the book of the text
-pub whole_book : (t : List ℕ) (from : List Lexeme) (xs ys : List held.Rule) → from ≡ lexemes t → xs ≡ [] → length t ≤ 8192 → ToldRules 0 0 from (Ok tt) xs ys → Accepted t (pure_rules ys)
-whole_book t from xs ys e f s h = subst (Accepted t) (ap (λ l. pure_rules l ++ h.0) (sym f) ∙ sym h.1) (accepted t h.0 s (subst (λ l. Reads l (items h.0) []) e h.2))
+pub whole_book : (t : List ℕ) (from : List Lexeme) (xs : List held.Rule) → from ≡ lexemes t → length t ≤ 8192 → Reads from (items (pure_rules xs)) [] → Accepted t (pure_rules xs)
+whole_book t from xs e s h = accepted t (pure_rules xs) s (subst (λ l. Reads l (items (pure_rules xs)) []) e h)
 
-pub whole_failed : (t : List ℕ) (from : List Lexeme) (xs ys : List held.Rule) → from ≡ lexemes t → length t ≤ 8192 → (e : Refusal) → ToldRules 0 0 from (Err e) xs ys → Answered t (Err e)
-whole_failed t from xs ys q s e h = answered t (Err e) (failed t xs ys s e (move_rules 0 0 from (lexemes t) (Err e) xs ys q h))
+pub whole_failed : (t : List ℕ) (from : List Lexeme) → from ≡ lexemes t → length t ≤ 8192 → (e : Refusal) → ToldRules from (Err e) → Answered t (Err e)
+whole_failed t from q s e h = answered t (Err e) (failed t s e (subst (λ l. ToldRules l (Err e)) q h))

@@ -1,22 +1,27 @@
 -- When a text is a book, and which fault it has else.
-use Rattle.std.specs.Prelude.{◌≡◌, ℕ, ◌<◌, ◌≤◌, cond, ◌||◌, List, [], ◌∷◌, ◌++◌, length, Some, None, Option, ◌≢◌, nat_lt}
+use Rattle.std.specs.Prelude.{◌≡◌, ℕ, ◌<◌, ◌≤◌, if◌then◌else◌, ◌||◌, List, [], ◌∷◌, ◌++◌, map, length, Some, None, Option, ◌≢◌, nat_lt, Ok, Err}
 use Rattle.book.specs.declared.refusals.Reason.{Reason}
 use Rattle.book.specs.declared.refusals.Reason.TheVariants.{TooLong, NotAllowed, PastLimit, Twice, Unbound}
 use Rattle.book.specs.declared.terminals.Terminal.{Terminal}
 use Rattle.book.specs.Rules.{Rule}
 use Rattle.book.specs.Sets.{has, has_field}
 use Rattle.book.specs.Grammar.{Role, plain, starts, names, binds, counts, uses, Item, items, tokens_of}
-use Rattle.book.specs.Text.{Got, good, bad, Lexeme, lexemes}
+use Rattle.book.specs.Text.{Got, Lexeme, lexemes}
 
 -- The fault of a token in its role, the one with the smallest number where there are several. A book has at most 16 rules and 64 nodes,
 -- 8 of them inside one another, and a pattern at most 4 conditions.
 abbrev pub role_fault : Role → Option Reason
 role_fault plain = None
-role_fault (starts k n d) = cond (nat_lt 16 k || nat_lt 64 n || nat_lt 8 d) (Some PastLimit) None
-role_fault (names fs f) = cond (has_field fs f) (Some Twice) None
-role_fault (binds ls l) = cond (has ls l) (Some Twice) None
-role_fault (counts k) = cond (nat_lt 4 k) (Some PastLimit) None
-role_fault (uses k s l) = cond (nat_lt 4 k) (Some PastLimit) (cond (has s l) None (Some Unbound))
+role_fault (starts k n d) = if nat_lt 16 k || nat_lt 64 n || nat_lt 8 d then Some PastLimit else None
+role_fault (names fs f) = if has_field fs f then Some Twice else None
+role_fault (binds ls l) = if has ls l then Some Twice else None
+role_fault (counts k) = if nat_lt 4 k then Some PastLimit else None
+role_fault (uses k s l) = if nat_lt 4 k then Some PastLimit else (if has s l then None else Some Unbound)
+
+-- after n nodes and inside d of them, one node more may begin
+pub record HasRoom (n d : ℕ) : Type 0 where
+  pub few : n < 64
+  pub shallow : d < 8
 
 abbrev pub fault : Item → Option Reason
 fault i = role_fault i.role
@@ -26,12 +31,10 @@ AllSound [] = Unit {0}
 AllSound (i ∷ is) = (fault i ≡ None) × AllSound is
 
 abbrev pub gots : List Lexeme → List Got
-gots [] = []
-gots (l ∷ ls) = l.got ∷ gots ls
+gots = map (λ l. l.got)
 
 abbrev pub meant : List Item → List Got
-meant [] = []
-meant (i ∷ is) = good i.token ∷ meant is
+meant = map (λ i. Ok i.token)
 
 -- The text is the book b: its tokens are those of b, and none is at fault there.
 pub record Accepted (text : List ℕ) (b : List Rule) : Type 0 where
@@ -42,11 +45,11 @@ pub record Accepted (text : List ℕ) (b : List Rule) : Type 0 where
 -- The fault of what stands after the tokens of pre.
 pub data FaultAt (pre : List Item) : Got → Reason → Type 0 where
   -- it is no token, or a bad number
-  unread : {r : Reason} → FaultAt pre (bad r) r
+  unread : {r : Reason} → FaultAt pre (Err r) r
   -- no book goes on with it
-  strange : {t : Terminal} → ((b : List Rule) (more : List Terminal) → tokens_of (items b) ≢ tokens_of pre ++ t ∷ more) → FaultAt pre (good t) NotAllowed
+  strange : {t : Terminal} → ((b : List Rule) (more : List Terminal) → tokens_of (items b) ≢ tokens_of pre ++ t ∷ more) → FaultAt pre (Ok t) NotAllowed
   -- books go on with it, and there it is at fault
-  past : {r : Reason} (b : List Rule) (i : Item) (more : List Item) → items b ≡ pre ++ i ∷ more → fault i ≡ Some r → FaultAt pre (good i.token) r
+  past : {r : Reason} (b : List Rule) (i : Item) (more : List Item) → items b ≡ pre ++ i ∷ more → fault i ≡ Some r → FaultAt pre (Ok i.token) r
 
 -- The first token at fault stands at place p, for the reason r.
 pub record FirstFault (text : List ℕ) (r : Reason) (p : ℕ) : Type 0 where

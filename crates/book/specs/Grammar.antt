@@ -1,5 +1,5 @@
 -- The grammar: each tree, and the tokens that it is written in, with what each token does there.
-use Rattle.std.specs.Prelude.{ℕ, ◌+◌, List, [], ◌∷◌, ◌++◌}
+use Rattle.std.specs.Prelude.{ℕ, ◌+◌, List, [], ◌∷◌, ◌++◌, map}
 use Rattle.feed.specs.declared.fields.Field.{Field}
 use Rattle.book.specs.declared.terms.Letter.{Letter}
 use Rattle.book.specs.declared.terms.Binder.{Binder}
@@ -10,12 +10,11 @@ use Rattle.book.specs.declared.terms.Part.TheVariants as part
 use Rattle.book.specs.declared.terms.Sum.{Sum}
 use Rattle.book.specs.declared.terms.Sum.TheVariants.{One, Two, Three}
 use Rattle.book.specs.declared.terms.Condition.{Condition}
-use Rattle.book.specs.declared.sets.Letters.{Letters}
-use Rattle.book.specs.declared.sets.Fields.{Fields}
 use Rattle.book.specs.declared.terminals.Terminal.{Terminal}
 use Rattle.book.specs.declared.terminals.Terminal.TheVariants.{Duty, Before, Trigger, Until, Then, Joint, Never, If, Named, Lettered, Numeral, Compare, Plus, Times, Comma, Semicolon, Open, Close, OpenSquare, CloseSquare, End}
 use Rattle.book.specs.Rules.{Pattern, never, lines, Rule, duty, trigger, bracket}
-use Rattle.book.specs.Sets.{no_letters, no_fields, with_field, with_operand, with_binders, with_pattern}
+use Rattle.book.specs.Sizes.{nodes as size}
+use Rattle.book.specs.Sets.{Fields, Letters, no_letters, no_fields, with_field, with_operand, with_binders, with_pattern}
 
 -- What a token does where it stands.
 pub data Role : Type 0 where
@@ -87,12 +86,6 @@ abbrev pub pattern_items : Letters → Pattern → List Item
 pattern_items s never = mark Never ∷ []
 pattern_items s (lines bs cs) = mark OpenSquare ∷ (binder_items bs ++ if_items (with_binders s bs) cs)
 
--- how many nodes a rule has
-abbrev pub size : Rule → ℕ
-size (duty k p q) = 1
-size (trigger k p q r) = 1 + size r
-size (bracket k r t) = 1 + size r + size t
-
 -- Where a rule stands: the number of the book's rule that it is in, the nodes begun before it, those around it, the letters bound.
 pub record Spot : Type 0 where
   pub rule : ℕ
@@ -136,5 +129,4 @@ abbrev pub items : List Rule → List Item
 items = book_items 0 0
 
 abbrev pub tokens_of : List Item → List Terminal
-tokens_of [] = []
-tokens_of (i ∷ is) = i.token ∷ tokens_of is
+tokens_of = map (λ i. i.token)

@@ -1,23 +1,14 @@
 -- What every book that exists keeps.
-use Rattle.std.specs.Prelude.{◌≡◌, ℕ, Bool, true, false, ◌&&◌, List, [], ◌∷◌, Some, None, Option}
-use Rattle.book.specs.declared.refusals.Reason.{Reason}
+use Rattle.std.specs.Prelude.{ℕ, List, is_none, IsTrue}
+use Rattle.std.specs.List.{list_all}
 use Rattle.book.specs.declared.rules.Rule.{Rule}
-use Rattle.book.specs.Grammar.{Item, items}
+use Rattle.book.specs.Grammar.{items}
 use Rattle.book.specs.Faults.{fault, Accepted}
 use Rattle.book.specs.Trees.{pure_rules}
 
-abbrev pub is_none : Option Reason → Bool
-is_none None = true
-is_none (Some r) = false
-
--- no item is at fault
-abbrev pub sound_items : List Item → Bool
-sound_items [] = true
-sound_items (i ∷ is) = is_none (fault i) && sound_items is
-
 -- no token of the book is at fault: it keeps the limits and the scoping
 abbrev pub Kept : List Rule → Type 0
-Kept rs = sound_items (items (pure_rules rs)) ≡ true
+Kept rs = IsTrue (list_all (λ i. is_none (fault i)) (items (pure_rules rs)))
 
 -- some text is this book
 abbrev pub Written : List Rule → Type 0

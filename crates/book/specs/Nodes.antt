@@ -1,30 +1,30 @@
 -- What the readers of rules ensure.
-use Rattle.std.specs.Prelude.{◌≡◌, ℕ, ◌+◌, ◌≤◌, List, [], ◌∷◌, Ok, Err, Result}
-use Rattle.book.specs.declared.openings.Expected.{Expected}
-use Rattle.book.specs.declared.openings.Expected.TheVariants as expected
+use Rattle.std.specs.Prelude.{◌≡◌, ℕ, ◌+◌, List, [], ◌∷◌, Ok, Err, Result}
+use Rattle.book.specs.declared.places.Nodes.{Nodes}
+use Rattle.book.specs.declared.places.Place.{Place}
 use Rattle.book.specs.declared.openings.Opening.{Opening}
 use Rattle.book.specs.declared.openings.Opening.TheVariants as opening
 use Rattle.book.specs.declared.refusals.Refusal.{Refusal}
 use Rattle.book.specs.declared.rules.Rule as held
 use Rattle.book.specs.declared.terms.BracketKind.{BracketKind}
 use Rattle.book.specs.declared.terminals.Terminal.{Terminal}
-use Rattle.book.specs.declared.terminals.Terminal.TheVariants.{Duty, Before, Trigger, Until, Then, Joint, Semicolon, Open, Close}
+use Rattle.book.specs.declared.terminals.Terminal.TheVariants.{Duty, Trigger, Joint, Open}
+use Rattle.book.specs.Sets.{Letters}
 use Rattle.book.specs.Rules.{Rule}
-use Rattle.book.specs.Grammar.{Item, item, mark, starts, Spot, started, size, rule_items}
+use Rattle.book.specs.Grammar.{Item, item, mark, starts, Spot, spot, started, rule_items}
+use Rattle.book.specs.Sizes.{nodes as size}
 use Rattle.book.specs.Text.{Lexeme}
 use Rattle.book.specs.Reading.{Reads}
 use Rattle.book.specs.Readers.{ToldBy}
 use Rattle.book.specs.Trees.{pure_rule}
 
-abbrev pub expected_terminal : Expected → Terminal
-expected_terminal expected.Before = Before
-expected_terminal expected.Until = Until
-expected_terminal expected.Then = Then
-expected_terminal expected.Close = Close
-expected_terminal expected.Semicolon = Semicolon
+-- where a rule begins
+abbrev pub spot_at : Place → Nodes → Spot
+spot_at p n = spot p.rule n.begun p.around p.bound
 
-abbrev pub expected_items : Expected → Unit {0} → List Item
-expected_items e u = mark (expected_terminal e) ∷ []
+-- where a rule begins inside a node at p, where the letters ls are bound
+abbrev pub inside : Place → Nodes → Letters → Spot
+inside p n ls = spot p.rule n.begun (p.around + 1) ls
 
 abbrev pub joint_items : BracketKind → List Item
 joint_items k = mark (Joint k) ∷ []
@@ -42,7 +42,7 @@ opening_items k n d o = item (opening_terminal o) (starts k (n + 1) (d + 1)) ∷
 abbrev pub Continued : Spot → Terminal → List Lexeme → Result held.Rule Refusal → List Lexeme → Type 0
 Continued s t here r to = (from : List Lexeme) → Reads from (item t (started s) ∷ []) here → ToldBy held.Rule Rule pure_rule (rule_items s) from r to
 
--- After n nodes a rule was read, and m nodes have begun now.
-abbrev pub Counted : ℕ → Result held.Rule Refusal → ℕ → Type 0
-Counted n (Ok x) m = (m ≡ n + size (pure_rule x)) × (m ≤ 64)
+-- A rule was read after the nodes n, and the nodes m have begun now.
+abbrev pub Counted : Nodes → Result held.Rule Refusal → Nodes → Type 0
+Counted n (Ok x) m = m.begun ≡ n.begun + size (pure_rule x)
 Counted n (Err e) m = Unit {0}

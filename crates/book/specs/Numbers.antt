@@ -1,7 +1,7 @@
 -- The numbers of a rule's nodes: from 1, in the order in which the nodes begin.
-use Rattle.std.specs.Prelude.{◌≡◌, ℕ, zero, suc, ◌+◌, List, [], ◌∷◌, ◌++◌}
+use Rattle.std.specs.Prelude.{◌≡◌, ℕ, zero, suc, ◌+◌, List, [], ◌∷◌, ◌++◌, map}
 use Rattle.book.specs.Rules.{Rule, duty, trigger, bracket}
-use Rattle.book.specs.Grammar.{size}
+use Rattle.book.specs.Sizes.{nodes as size}
 
 -- a node, which is a rule or a bracket, with its number
 pub record Node : Type 0 where
@@ -20,8 +20,7 @@ abbrev pub nodes_of : Rule → List Node
 nodes_of = nodes_from 1
 
 abbrev pub numbers : List Node → List ℕ
-numbers [] = []
-numbers (x ∷ xs) = x.number ∷ numbers xs
+numbers = map (λ x. x.number)
 
 -- k numbers from n on
 abbrev pub counting : ℕ → ℕ → List ℕ

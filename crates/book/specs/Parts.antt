@@ -1,12 +1,12 @@
 -- What the readers of a condition ensure.
 use Rattle.std.specs.Prelude.{◌≡◌, ℕ, List, [], ◌∷◌, ◌≢◌}
+use Rattle.book.specs.Sets.{Letters}
 use Rattle.book.specs.declared.terms.Letter.{Letter}
 use Rattle.book.specs.declared.terms.Part.{Part}
 use Rattle.book.specs.declared.terms.Part.TheVariants.{Number, Bound, Product}
 use Rattle.book.specs.declared.terms.Sum.{Sum}
 use Rattle.book.specs.declared.terms.Sum.TheVariants.{One, Two, Three}
 use Rattle.book.specs.declared.terms.Condition.{Condition}
-use Rattle.book.specs.declared.sets.Letters.{Letters}
 use Rattle.book.specs.declared.terminals.Terminal.{Terminal}
 use Rattle.book.specs.declared.terminals.Terminal.TheVariants.{Lettered, Plus, Times}
 use Rattle.book.specs.Grammar.{Item, item, uses}

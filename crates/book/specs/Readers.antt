@@ -1,57 +1,32 @@
 -- What the readers of the code ensure.
-use Rattle.std.specs.Prelude.{◌≡◌, Bool, true, false, List, ◌∷◌, Ok, Err, Result}
-use Rattle.tokens.specs.declared.source.Cursor.{Cursor}
+use Rattle.std.specs.Prelude.{◌≡◌, Bool, true, false, List, [], ◌∷◌, Ok, Err, Result}
 use Rattle.tokens.specs.Tokens.{ahead}
+use Rattle.book.specs.declared.reader.Reader.{Reader}
 use Rattle.book.specs.declared.refusals.Fault.{Fault}
-use Rattle.book.specs.declared.refusals.Reason.{Reason}
 use Rattle.book.specs.declared.refusals.Refusal.{Refusal}
 use Rattle.book.specs.declared.refusals.Refusal.TheVariants.{Faulty, NoMemory}
 use Rattle.book.specs.declared.terminals.Seen.{Seen}
 use Rattle.book.specs.declared.terminals.Terminal.{Terminal}
-use Rattle.book.specs.declared.terminals.Terminal.TheVariants.{Duty, Before, Trigger, Until, Then, Joint, Never, If, Named, Lettered, Numeral, Compare, Plus, Times, Comma, Semicolon, Open, Close, OpenSquare, CloseSquare, End}
-use Rattle.book.specs.Grammar.{Item}
-use Rattle.book.specs.Text.{Got, good, bad, Lexeme, lexeme, meanings}
+use Rattle.book.specs.declared.terminals.Terminal.TheVariants.{End}
+use Rattle.book.specs.Grammar.{Item, mark}
+use Rattle.book.specs.Text.{Lexeme, lexeme, meanings}
 use Rattle.book.specs.Reading.{any, Reads, Fails}
 
 -- the lexemes ahead
-abbrev pub coming : Cursor → List Lexeme
-coming c = meanings (ahead c)
+abbrev pub coming : Reader → List Lexeme
+coming r = meanings (ahead r.cursor)
 
 abbrev pub is_end : Terminal → Bool
-is_end (Duty k) = false
-is_end Before = false
-is_end (Trigger k) = false
-is_end Until = false
-is_end Then = false
-is_end (Joint k) = false
-is_end Never = false
-is_end If = false
-is_end (Named f) = false
-is_end (Lettered l) = false
-is_end (Numeral n) = false
-is_end (Compare s) = false
-is_end Plus = false
-is_end Times = false
-is_end Comma = false
-is_end Semicolon = false
-is_end Open = false
-is_end Close = false
-is_end OpenSquare = false
-is_end CloseSquare = false
 is_end End = true
-
--- what was made of a stretch
-abbrev pub got_from : Result Terminal Reason → Got
-got_from (Ok t) = good t
-got_from (Err r) = bad r
+is_end _ = false
 
 abbrev pub seen_as : Seen → Lexeme
-seen_as s = lexeme s.place (good s.terminal)
+seen_as s = lexeme s.place (Ok s.terminal)
 
 -- the next lexeme was taken; the end stays ahead
 abbrev pub Next : List Lexeme → Result Seen Fault → List Lexeme → Type 0
 Next from (Ok s) to = (rest : List Lexeme) × (from ≡ seen_as s ∷ rest) × (is_end s.terminal ≡ false → rest ≡ to)
-Next from (Err e) to = (rest : List Lexeme) × (from ≡ lexeme e.place (bad e.reason) ∷ rest)
+Next from (Err e) to = (rest : List Lexeme) × (from ≡ lexeme e.place (Err e.reason) ∷ rest)
 
 -- a tree was read that P says how to write, or the first fault was found
 abbrev pub Told : (X : Type 0) → (X → List Item) → List Lexeme → Result X Fault → List Lexeme → Type 0
@@ -73,3 +48,7 @@ abbrev pub ToldBy : (T X : Type 0) → (T → X) → (X → List Item) → List 
 ToldBy T X f P from (Ok x) to = Reads from (P (f x)) to
 ToldBy T X f P from (Err (Faulty e)) to = Fails X P (any X) from e.reason e.place
 ToldBy T X f P from (Err NoMemory) to = Unit {0}
+
+-- the one terminal that may stand at a place
+abbrev pub only_items : Terminal → Unit {0} → List Item
+only_items t u = mark t ∷ []

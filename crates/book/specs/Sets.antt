@@ -1,25 +1,41 @@
 -- Sets of letters and of fields. Assumes nothing.
-use Rattle.std.specs.Prelude.{ℕ, Bool, true, false, List, [], ◌∷◌, slice_index_or, slice_set}
+use Rattle.std.specs.Prelude.{ℕ, Bool, true, false, List, [], ◌∷◌, replicate, slice_index_or, slice_set}
 use Rattle.feed.specs.declared.fields.Field.{Field}
 use Rattle.feed.specs.declared.fields.Field.TheVariants as fields
 use Rattle.book.specs.declared.terms.Letter.{Letter}
 use Rattle.book.specs.declared.terms.Binder.{Binder}
 use Rattle.book.specs.declared.terms.Operand.{Operand}
 use Rattle.book.specs.declared.terms.Operand.TheVariants as operand
-use Rattle.book.specs.declared.sets.Letters.{Letters}
-use Rattle.book.specs.declared.sets.Fields.{Fields}
+use Rattle.book.specs.declared.sets.Set.{Set}
 use Rattle.book.specs.Letters.{letter_index}
 use Rattle.book.specs.Rules.{Pattern, never, lines}
 
+abbrev pub Letters : Type 0
+Letters = Set 8
+
+abbrev pub Fields : Type 0
+Fields = Set 6
+
+abbrev pub empty : (n : ℕ) → Set n
+empty n = record { held = replicate n false }
+
+-- whether the k-th is in the set
+abbrev pub holds : {n : ℕ} → Set n → ℕ → Bool
+holds s k = slice_index_or s.held k false
+
+-- s and the k-th
+abbrev pub joined : {n : ℕ} → Set n → ℕ → Set n
+joined s k = record { held = slice_set s.held k true }
+
 abbrev pub no_letters : Letters
-no_letters = record { held = false ∷ false ∷ false ∷ false ∷ false ∷ false ∷ false ∷ false ∷ [] }
+no_letters = empty 8
 
 abbrev pub has : Letters → Letter → Bool
-has s l = slice_index_or s.held (letter_index l) false
+has s l = holds s (letter_index l)
 
 -- s and one letter more
 abbrev pub with : Letters → Letter → Letters
-with s l = record { held = slice_set s.held (letter_index l) true }
+with s l = joined s (letter_index l)
 
 -- a field's place among the six, from 0
 abbrev pub field_index : Field → ℕ
@@ -31,14 +47,14 @@ field_index fields.Run = 4
 field_index fields.Reading = 5
 
 abbrev pub no_fields : Fields
-no_fields = record { held = false ∷ false ∷ false ∷ false ∷ false ∷ false ∷ [] }
+no_fields = empty 6
 
 abbrev pub has_field : Fields → Field → Bool
-has_field s f = slice_index_or s.held (field_index f) false
+has_field s f = holds s (field_index f)
 
 -- s and one field more
 abbrev pub with_field : Fields → Field → Fields
-with_field s f = record { held = slice_set s.held (field_index f) true }
+with_field s f = joined s (field_index f)
 
 abbrev pub with_operand : Letters → Operand → Letters
 with_operand s (operand.Number n) = s

@@ -1,9 +1,12 @@
 -- What each stretch of a text means: a terminal of the grammar, or the reason why it is none.
-use Rattle.std.specs.Prelude.{ℕ, ◌+◌, ◌-◌, ◌*◌, Bool, false, cond, ◌&&◌, List, [], ◌∷◌, length, codes, ◌==◌, nat_le, nat_lt}
+use Rattle.std.specs.Prelude.{ℕ, ◌+◌, ◌-◌, ◌*◌, Bool, false, if◌then◌else◌, ◌&&◌, List, [], ◌∷◌, map, length, codes, ◌==◌, nat_le, nat_lt, Ok, Err, Result}
+use Rattle.std.specs.Map.{lookup}
+use Rattle.std.specs.Option.{ok_or}
+use Rattle.std.specs.Str.{bytes_eq}
 use Rattle.feed.specs.declared.fields.Field.TheVariants.{Time, Kind, Machine, Crew, Run, Reading}
 use Rattle.tokens.specs.declared.token.Symbol.{Symbol}
 use Rattle.tokens.specs.declared.token.Symbol.TheVariants as symbols
-use Rattle.tokens.specs.Text.{Stretch, word, number, symbol, stray, end, Placed, stretches, same}
+use Rattle.tokens.specs.Text.{Stretch, word, number, symbol, stray, end, Placed, stretches}
 use Rattle.book.specs.declared.terms.Letter.TheVariants as letters
 use Rattle.book.specs.declared.terms.Sign.TheVariants.{AtMost, AtLeast, Equal}
 use Rattle.book.specs.declared.terms.DutyKind.TheVariants.{Must, MustNot}
@@ -14,9 +17,9 @@ use Rattle.book.specs.declared.refusals.Reason.TheVariants.{NoToken, BadNumber}
 use Rattle.book.specs.declared.terminals.Terminal.{Terminal}
 use Rattle.book.specs.declared.terminals.Terminal.TheVariants.{Duty, Before, Trigger, Until, Then, Joint, Never, If, Named, Lettered, Numeral, Compare, Plus, Times, Comma, Semicolon, Open, Close, OpenSquare, CloseSquare, End}
 
-pub data Got : Type 0 where
-  good : Terminal → Got
-  bad : Reason → Got
+-- what a stretch means: a terminal, or the reason why it is none
+abbrev pub Got : Type 0
+Got = Result Terminal Reason
 
 pub record Lexeme : Type 0 where
   pub place : ℕ
@@ -25,45 +28,17 @@ pub record Lexeme : Type 0 where
 abbrev pub lexeme : ℕ → Got → Lexeme
 lexeme p g = record { place = p; got = g }
 
--- one letter A to H, or none of the grammar's
-unfoldable pub letter_of : List ℕ → Got
-letter_of w =
-    cond (same w (codes "A")) (good (Lettered letters.A))
-    (cond (same w (codes "B")) (good (Lettered letters.B))
-    (cond (same w (codes "C")) (good (Lettered letters.C))
-    (cond (same w (codes "D")) (good (Lettered letters.D))
-    (cond (same w (codes "E")) (good (Lettered letters.E))
-    (cond (same w (codes "F")) (good (Lettered letters.F))
-    (cond (same w (codes "G")) (good (Lettered letters.G))
-    (cond (same w (codes "H")) (good (Lettered letters.H))
-    (bad NoToken))))))))
+-- the words of the grammar, the names of the fields, and the letters
+abbrev pub words : List (List ℕ × Terminal)
+words =
+    (codes "must", Duty Must) ∷ (codes "mustnot", Duty MustNot) ∷ (codes "before", Before) ∷ (codes "each", Trigger Each) ∷ (codes "once", Trigger Once)
+    ∷ (codes "until", Until) ∷ (codes "then", Then) ∷ (codes "else", Joint bracket.Else) ∷ (codes "and", Joint bracket.And) ∷ (codes "never", Never) ∷ (codes "if", If)
+    ∷ (codes "time", Named Time) ∷ (codes "kind", Named Kind) ∷ (codes "machine", Named Machine) ∷ (codes "crew", Named Crew) ∷ (codes "run", Named Run) ∷ (codes "reading", Named Reading)
+    ∷ (codes "A", Lettered letters.A) ∷ (codes "B", Lettered letters.B) ∷ (codes "C", Lettered letters.C) ∷ (codes "D", Lettered letters.D)
+    ∷ (codes "E", Lettered letters.E) ∷ (codes "F", Lettered letters.F) ∷ (codes "G", Lettered letters.G) ∷ (codes "H", Lettered letters.H) ∷ []
 
--- a field's name
-unfoldable pub field_of : List ℕ → Got
-field_of w =
-    cond (same w (codes "time")) (good (Named Time))
-    (cond (same w (codes "kind")) (good (Named Kind))
-    (cond (same w (codes "machine")) (good (Named Machine))
-    (cond (same w (codes "crew")) (good (Named Crew))
-    (cond (same w (codes "run")) (good (Named Run))
-    (cond (same w (codes "reading")) (good (Named Reading))
-    (letter_of w))))))
-
--- a word of the grammar
 unfoldable pub word_of : List ℕ → Got
-word_of w =
-    cond (same w (codes "must")) (good (Duty Must))
-    (cond (same w (codes "mustnot")) (good (Duty MustNot))
-    (cond (same w (codes "before")) (good Before)
-    (cond (same w (codes "each")) (good (Trigger Each))
-    (cond (same w (codes "once")) (good (Trigger Once))
-    (cond (same w (codes "until")) (good Until)
-    (cond (same w (codes "then")) (good Then)
-    (cond (same w (codes "else")) (good (Joint bracket.Else))
-    (cond (same w (codes "and")) (good (Joint bracket.And))
-    (cond (same w (codes "never")) (good Never)
-    (cond (same w (codes "if")) (good If)
-    (field_of w)))))))))))
+word_of w = ok_or (lookup (λ k. bytes_eq k w) words) NoToken
 
 -- the value of decimal digits after v
 abbrev pub value_from : ℕ → List ℕ → ℕ
@@ -77,8 +52,8 @@ leading_zero (d ∷ ds) = nat_lt 1 (length (d ∷ ds)) && d == 48
 -- a number from 0 to 9,999,999
 unfoldable pub number_of : List ℕ → Got
 number_of w =
-    cond (leading_zero w) (bad BadNumber)
-    (cond (nat_le (value_from 0 w) 9999999) (good (Numeral (value_from 0 w))) (bad BadNumber))
+    if leading_zero w then Err BadNumber
+    else if nat_le (value_from 0 w) 9999999 then Ok (Numeral (value_from 0 w)) else Err BadNumber
 
 abbrev pub symbol_terminal : Symbol → Terminal
 symbol_terminal symbols.AtMost = Compare AtMost
@@ -96,13 +71,12 @@ symbol_terminal symbols.CloseSquare = CloseSquare
 abbrev pub meaning : Stretch → Got
 meaning (word w) = word_of w
 meaning (number w) = number_of w
-meaning (symbol s) = good (symbol_terminal s)
-meaning stray = bad NoToken
-meaning end = good End
+meaning (symbol s) = Ok (symbol_terminal s)
+meaning stray = Err NoToken
+meaning end = Ok End
 
 abbrev pub meanings : List Placed → List Lexeme
-meanings [] = []
-meanings (x ∷ xs) = lexeme x.place (meaning x.stretch) ∷ meanings xs
+meanings = map (λ x. lexeme x.place (meaning x.stretch))
 
 -- the tokens of a text, each with its place, and its end
 abbrev pub lexemes : List ℕ → List Lexeme

@@ -1,32 +1,25 @@
 -- What the reader of a whole text ensures.
-use Rattle.std.specs.Prelude.{◌≡◌, ℕ, List, [], ◌++◌, Some, None, Ok, Err, vec_items, Option, Result}
+use Rattle.std.specs.Prelude.{◌≡◌, ℕ, List, [], Ok, Err, vec_items, Result, Vec}
+use Rattle.std.specs.declared.alloc.Global.{Global}
 use Rattle.book.specs.declared.book.Book.{Book}
 use Rattle.book.specs.declared.refusals.Reason.{Reason}
 use Rattle.book.specs.declared.refusals.Refusal.{Refusal}
 use Rattle.book.specs.declared.refusals.Refusal.TheVariants.{Faulty, NoMemory}
 use Rattle.book.specs.declared.rules.Rule as held
-use Rattle.book.specs.Refusals.{reason_number}
 use Rattle.book.specs.Rules.{Rule}
-use Rattle.book.specs.Grammar.{book_items}
+use Rattle.book.specs.Grammar.{items}
 use Rattle.book.specs.Faults.{Accepted, Refused}
 use Rattle.book.specs.Text.{Lexeme}
-use Rattle.book.specs.Reading.{any, Reads, Fails}
+use Rattle.book.specs.Readers.{ToldBy}
 use Rattle.book.specs.Trees.{pure_rules}
 
 -- the rules of a book, as the meaning is defined on them
 abbrev pub pure_book : Book → List Rule
 pure_book b = pure_rules (vec_items b.rules)
 
--- the number and the place that the rule writer is told; want of memory has none
-abbrev pub number_and_place : Refusal → Option (ℕ × ℕ)
-number_and_place (Faulty f) = Some (reason_number f.reason, f.place)
-number_and_place NoMemory = None
-
--- after k rules with n nodes, the rules up to the end were read behind xs, which are ys now
-abbrev pub ToldRules : ℕ → ℕ → List Lexeme → Result (Unit {0}) Refusal → List held.Rule → List held.Rule → Type 0
-ToldRules k n from (Ok u) xs ys = (rs : List Rule) × (pure_rules ys ≡ pure_rules xs ++ rs) × Reads from (book_items k n rs) []
-ToldRules k n from (Err (Faulty e)) xs ys = Fails (List Rule) (book_items k n) (any (List Rule)) from e.reason e.place
-ToldRules k n from (Err NoMemory) xs ys = Unit {0}
+-- the rules up to the end were read
+abbrev pub ToldRules : List Lexeme → Result (Vec held.Rule Global) Refusal → Type 0
+ToldRules from r = ToldBy (Vec held.Rule Global) (List Rule) (λ v. pure_rules (vec_items v)) items from r []
 
 -- the text is the book that was read, or the fault is its first
 abbrev pub Told : List ℕ → Result Book Refusal → Type 0

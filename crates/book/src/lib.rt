@@ -3,9 +3,11 @@
 
 pub mod book;
 pub mod exact;
+mod nodes;
 mod openings;
 mod parts;
 mod patterns;
+mod places;
 mod reader;
 pub mod refusals;
 pub mod rules;

@@ -3,12 +3,12 @@ ghost use Rattle.std.specs.Prelude.{◌≡◌};
 ghost use Rattle.book.specs.Refusals.{reason_number};
 ghost use Rattle.book.specs.declared.refusals.Refusal.TheVariants.{Faulty, NoMemory};
 
-use std::alloc::AllocFailed;
+use std::alloc::{AllocError, AllocFailed};
 
-#[derive(Clone, Copy)]
+#[derive(Clone, Copy, Debug, PartialEq, Eq)]
 pub enum Reason {
     // the text has more than 8,192 bytes
-    TooLong,
+    TooLong = 1,
     // bytes that form no token
     NoToken,
     // a number that is too large or has a leading zero
@@ -28,27 +28,19 @@ impl Reason {
     pub fn number(self) -> u8
         ensures { result ≡ reason_number self }
     {
-        match self {
-            Reason::TooLong => 1,
-            Reason::NoToken => 2,
-            Reason::BadNumber => 3,
-            Reason::NotAllowed => 4,
-            Reason::PastLimit => 5,
-            Reason::Twice => 6,
-            Reason::Unbound => 7,
-        }
+        self as u8
     }
 }
 
 // A reason with its place, the count of bytes before the token at fault.
-#[derive(Clone, Copy)]
+#[derive(Clone, Copy, Debug, PartialEq, Eq)]
 pub struct Fault {
     pub reason: Reason,
     pub place: usize,
 }
 
 // Why no book was read: the text's first fault, or want of memory.
-#[derive(Clone, Copy)]
+#[derive(Clone, Copy, Debug, PartialEq, Eq)]
 pub enum Refusal {
     Faulty(Fault),
     NoMemory,
@@ -67,6 +59,14 @@ impl<T: Drop> From<AllocFailed<T>> for Refusal {
     ghost from_gives = { λ _ r. r ≡ NoMemory };
 
     fn from(_refused: AllocFailed<T>) -> Refusal {
+        Refusal::NoMemory
+    }
+}
+
+impl From<AllocError> for Refusal {
+    ghost from_gives = { λ _ r. r ≡ NoMemory };
+
+    fn from(_refused: AllocError) -> Refusal {
         Refusal::NoMemory
     }
 }

@@ -1,40 +1,72 @@
 // Sets of letters and of fields.
-ghost use Rattle.std.specs.Prelude.{◌≡◌, ◌<◌};
-ghost use Rattle.book.specs.Sets.{has, with, no_letters, has_field, with_field, no_fields, field_index, with_operand, with_binders, with_pattern};
+ghost use Rattle.std.specs.Prelude.{◌≡◌, ℕ, ◌<◌};
+ghost use Rattle.book.specs.Letters.{letter_index};
+ghost use Rattle.book.specs.Sets.{empty, holds, joined, field_index, with_operand, with_binders, with_pattern};
 ghost use Rattle.book.specs.Trees.{pure_pattern};
 
 use crate::rules::Pattern;
 use crate::terms::{Binder, Letter, Operand};
 use feed::fields::Field;
 
-// For each of the eight letters, whether it is in the set.
-#[derive(Clone, Copy)]
-pub struct Letters {
-    pub held: [bool; 8],
+// A kind of which there are N, each with its place among them, from 0.
+pub(crate) trait Placed<const N: usize> {
+    ghost place: { Self → ℕ };
+
+    fn place(self) -> usize
+        ensures value { result ≡ place self }
+        ensures bound { result < N };
+}
+
+impl Placed<8> for Letter {
+    ghost place = { letter_index };
+
+    fn place(self) -> usize {
+        self.index()
+    }
+}
+
+impl Placed<6> for Field {
+    ghost place = { field_index };
+
+    fn place(self) -> usize {
+        self as usize
+    }
+}
+
+// For each of the N of a kind, whether it is in the set.
+#[derive(Clone, Copy, Debug, PartialEq, Eq)]
+pub struct Set<const N: usize> {
+    pub held: [bool; N],
+}
+
+pub type Letters = Set<8>;
+
+pub type Fields = Set<6>;
+
+impl<const N: usize> Set<N> {
+    pub(crate) fn none() -> Set<N>
+        ensures { result ≡ empty N }
+    {
+        Set { held: [false; N] }
+    }
+
+    pub(crate) fn has<K: Placed<N>>(self, member: K) -> bool
+        ensures { result ≡ holds self.entry (K.place member) }
+    {
+        self.held[member.place()]
+    }
+
+    // The set with one member more.
+    pub(crate) fn with<K: Placed<N>>(self, member: K) -> Set<N>
+        ensures { result ≡ joined self.entry (K.place member) }
+    {
+        let mut held = self.held;
+        held[member.place()] = true;
+        Set { held }
+    }
 }
 
 impl Letters {
-    pub(crate) fn none() -> Letters
-        ensures { result ≡ no_letters }
-    {
-        Letters { held: [false; 8] }
-    }
-
-    pub(crate) fn has(self, letter: Letter) -> bool
-        ensures { result ≡ has self letter }
-    {
-        self.held[letter.index()]
-    }
-
-    // The set with one letter more.
-    pub(crate) fn with(self, letter: Letter) -> Letters
-        ensures { result ≡ with self letter }
-    {
-        let mut held = self.held;
-        held[letter.index()] = true;
-        Letters { held }
-    }
-
     // The set with the letter that an operand binds.
     pub(crate) fn with_operand(self, operand: Operand) -> Letters
         ensures { result ≡ with_operand self operand }
@@ -67,49 +99,5 @@ impl Letters {
                 conditions: _,
             } => self.with_binders(binders),
         }
-    }
-}
-
-// The field's place among the six, from 0.
-fn index_of(field: Field) -> usize
-    ensures value { result ≡ field_index field }
-    ensures bound { result < 6 }
-{
-    match field {
-        Field::Time => 0,
-        Field::Kind => 1,
-        Field::Machine => 2,
-        Field::Crew => 3,
-        Field::Run => 4,
-        Field::Reading => 5,
-    }
-}
-
-// For each of the six fields, whether it is in the set.
-#[derive(Clone, Copy)]
-pub struct Fields {
-    pub held: [bool; 6],
-}
-
-impl Fields {
-    pub(crate) fn none() -> Fields
-        ensures { result ≡ no_fields }
-    {
-        Fields { held: [false; 6] }
-    }
-
-    pub(crate) fn has(self, field: Field) -> bool
-        ensures { result ≡ has_field self field }
-    {
-        self.held[index_of(field)]
-    }
-
-    // The set with one field more.
-    pub(crate) fn with(self, field: Field) -> Fields
-        ensures { result ≡ with_field self field }
-    {
-        let mut held = self.held;
-        held[index_of(field)] = true;
-        Fields { held }
     }
 }

@@ -5,7 +5,7 @@ ghost use Rattle.book.specs.Letters.{letter_index};
 use feed::fields::Field;
 
 // A letter that a pattern may bind.
-#[derive(Clone, Copy)]
+#[derive(Clone, Copy, Debug, PartialEq, Eq)]
 pub enum Letter {
     A,
     B,
@@ -23,34 +23,25 @@ impl Letter {
         ensures value { result ≡ letter_index self }
         ensures bound { result < 8 }
     {
-        match self {
-            Letter::A => 0,
-            Letter::B => 1,
-            Letter::C => 2,
-            Letter::D => 3,
-            Letter::E => 4,
-            Letter::F => 5,
-            Letter::G => 6,
-            Letter::H => 7,
-        }
+        self as usize
     }
 }
 
 // What a binder asks of its field.
-#[derive(Clone, Copy)]
+#[derive(Clone, Copy, Debug, PartialEq, Eq)]
 pub enum Operand {
     Number(u32),
     Bound(Letter),
 }
 
-#[derive(Clone, Copy)]
+#[derive(Clone, Copy, Debug, PartialEq, Eq)]
 pub struct Binder {
     pub field: Field,
     pub operand: Operand,
 }
 
 // A part of a sum: a number, a letter, or a number times a letter.
-#[derive(Clone, Copy)]
+#[derive(Clone, Copy, Debug, PartialEq, Eq)]
 pub enum Part {
     Number(u32),
     Bound(Letter),
@@ -58,21 +49,21 @@ pub enum Part {
 }
 
 // One to three parts.
-#[derive(Clone, Copy)]
+#[derive(Clone, Copy, Debug, PartialEq, Eq)]
 pub enum Sum {
     One(Part),
     Two(Part, Part),
     Three(Part, Part, Part),
 }
 
-#[derive(Clone, Copy)]
+#[derive(Clone, Copy, Debug, PartialEq, Eq)]
 pub enum Sign {
     AtMost,
     AtLeast,
     Equal,
 }
 
-#[derive(Clone, Copy)]
+#[derive(Clone, Copy, Debug, PartialEq, Eq)]
 pub struct Condition {
     pub left: Sum,
     pub sign: Sign,
@@ -80,21 +71,21 @@ pub struct Condition {
 }
 
 // `must` asks for the act before the deadline; `mustnot` bans it until then.
-#[derive(Clone, Copy)]
+#[derive(Clone, Copy, Debug, PartialEq, Eq)]
 pub enum DutyKind {
     Must,
     MustNot,
 }
 
 // `each` opens a duty at every match, `once` at the first alone.
-#[derive(Clone, Copy)]
+#[derive(Clone, Copy, Debug, PartialEq, Eq)]
 pub enum TriggerKind {
     Each,
     Once,
 }
 
 // `else` holds a rule and its substitute, `and` two rules side by side.
-#[derive(Clone, Copy)]
+#[derive(Clone, Copy, Debug, PartialEq, Eq)]
 pub enum BracketKind {
     Else,
     And,

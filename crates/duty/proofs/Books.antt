@@ -1,23 +1,25 @@
 -- The rules of a book one after the other.
-use Rattle.std.proofs.Common.{◌≡◌, ℕ, zero, suc, ◌+◌, ◌-◌, ◌<◌, ◌≤◌, List, [], ◌∷◌, ◌++◌, length, get_or, take, drop, sym, refl, ap, ◌∙◌, subst, inl, inr, append_assoc, append-nil, arith, take_all, drop-drop}
+use Rattle.std.proofs.Common.{◌≡◌, ℕ, zero, suc, ◌+◌, ◌<◌, ◌≤◌, List, [], ◌∷◌, ◌++◌, length, get_or, take, drop, sym, refl, ap, ◌∙◌, subst, inl, inr, append_assoc, append-nil, arith, take_all, vec_items, Bor}
 use lib.Seq.{take-append-le}
-use Rattle.std.proofs.lemmas.List.{take_rest, drop_more, take_more}
+use Rattle.std.proofs.lemmas.List.{take_more}
 use Rattle.feed.specs.declared.lines.Line.{Line}
 use Rattle.book.specs.Rules as pure
-use Rattle.book.specs.Sizes.{nodes, depth, rule_number, all_nodes, deepest, largest}
+use Rattle.book.specs.Sizes.{all_nodes, deepest, largest, WithinLimits}
 use Rattle.book.specs.Trees.{pure_rule, pure_rules}
 use Rattle.book.specs.declared.rules.Rule.{Rule}
 use Rattle.duty.specs.Matching.{unbound}
 use Rattle.duty.specs.Verdicts.{verdict, verdicts}
-use Rattle.duty.specs.Sheet.{rule_sheet, book_sheet}
+use Rattle.duty.specs.Sheet.{rule_sheet, book_sheet, Fits}
 use Rattle.duty.specs.Final.{DecidedAt}
-use Rattle.duty.specs.Groups.{GroupEnds}
+use Rattle.duty.specs.Groups.{group_size}
 use Rattle.duty.specs.Open.{Left, met, missed, still, start, step, decide, entries}
-use Rattle.duty.specs.Drafts.{Adds}
+use Rattle.duty.specs.Drafts.{Drafted, Adds}
 use Rattle.duty.specs.Stepping.{outcome, StepsAt}
 use Rattle.duty.specs.Places.{Placed}
 use Rattle.duty.specs.Untouched.{Untouched}
-use Rattle.duty.specs.Judging.{verdict_at, Judges, JudgedRules}
+use Rattle.duty.specs.Kinds.{CoversEach}
+use Rattle.duty.specs.declared.kinds.Kinds.{Kinds}
+use Rattle.duty.specs.Judging.{verdict_at, Judges, JudgedRules, JudgesAll}
 use Rattle.duty.specs.declared.drafts.Draft.{Draft}
 use Rattle.duty.specs.declared.entries.Entry.{Entry}
 use Rattle.duty.specs.declared.judging.Judged.{Judged}
@@ -27,7 +29,7 @@ use Rattle.duty.specs.declared.verdicts.Verdict.{Verdict}
 use Rattle.duty.specs.declared.verdicts.Verdict.TheVariants.{Pending, Satisfied, Breached}
 use Rattle.duty.proofs.FactsShown as facts
 use Rattle.duty.proofs.Finals.{finality}
-use Rattle.duty.proofs.Listed.{group}
+use Rattle.duty.proofs.Listed as listed
 use Rattle.duty.proofs.Splits.{Shallow, group_splits, shallow_group}
 use Rattle.duty.proofs.Runs.{V_run}
 use Rattle.duty.proofs.Sheets.{sheet-after}
@@ -45,8 +47,8 @@ shallow_book (r ∷ rs) log = go (verdict r log) refl (shallow_book rs log)
 
     go : (v : Verdict) → verdict r log ≡ v → Shallow 0 (book_sheet rs log) → Shallow 0 (rule_sheet r log ++ book_sheet rs log)
     go Pending e s = shallow_group 0 (rule_sheet r log) (book_sheet rs log) (facts.pending r log e)
-    go (Satisfied j) e s = none (λ p. let z : ◌≡◌ {A = ℕ} 0 1 = cc in absurd (omega arith)) s
-    go (Breached j) e s = none (λ p. let z : ◌≡◌ {A = ℕ} 0 1 = cc in absurd (omega arith)) s
+    go (Satisfied j) e s = none (λ p. cc) s
+    go (Breached j) e s = none (λ p. cc) s
 
 decide_at : {A : Type 0} (i : ℕ) (x : Left A) → verdict_at (outcome x) i ≡ decide i x (λ o. Pending)
 decide_at i met = refl
@@ -56,30 +58,28 @@ decide_at i (still o) = refl
 abbrev pub whole : Place
 whole = record { node = 1; level = 0; budget = 8 }
 
-pub pending-judged : (r : pure.Rule) (l : Line) (i n : ℕ) (es : List Entry) (v w : Verdict) (a : Outcome) (d d' : Draft) → n ≤ length es → GroupEnds es n → StepsAt r whole (take (n - 0) es) l d a d' → w ≡ verdict_at a i → v ≡ Pending → Judges r v es l i d (record { verdict = w; read = n }) d'
-pending-judged r l i n es v w a d d' le ends h told is log rs num now-is have =
+pub pending-judged : (r : pure.Rule) (l : Line) (i : ℕ) (es group : List Entry) (rest : Bor (List Entry)) (v w : Verdict) (a : Outcome) (d d' : Draft) → group ≡ take (group_size es) es → rest.now ≡ drop (group_size es) es → StepsAt r whole group l d a d' → w ≡ verdict_at a i → v ≡ Pending → Judges r v es l i d (record { verdict = w; rest = rest }) d'
+pending-judged r l i es group rest v w a d d' front back h told is log rs num now-is have =
     let s = steps_right r unbound log (sym now-is ∙ is) in
     let o = s.left_open in
-    let t = group_splits 0 es (entries r 1 0 o) (book_sheet rs log) n (have ∙ ap (λ x. x ++ book_sheet rs log) (s.listed 1 0)) (group r 1 0 o) (shallow_book rs log) le ends in
-    let e : n - 0 ≡ n = omega arith in
-    let came = h 0 o (ap (λ k. take k es) e ∙ t.front) in
+    let t = group_splits 0 es (entries r 1 0 o) (book_sheet rs log) (have ∙ ap (λ x. x ++ book_sheet rs log) (s.listed 1 0)) (listed.group r 1 0 o) (shallow_book rs log) in
+    let came = h 0 o (front ∙ t.front) in
     record {
       verdict_is = told ∙ (ap (λ x. verdict_at x i) came.answer ∙ (decide_at i (step r o l) ∙ (ap (λ k. decide k (step r o l) (λ o. Pending)) (sym num) ∙ sym (s.verdict l))));
       written = adds_as d d' _ _ (sym (s.sheets l 1 0)) came.written;
-      ahead = t.back;
+      ahead = back ∙ t.back;
     }
 
 -- a pending rule that the line leaves untouched
-pub untouched_judged : (r : pure.Rule) (l : Line) (i n : ℕ) (es : List Entry) (v : Verdict) (d d' : Draft) → n ≤ length es → GroupEnds es n → Adds d d' (take (n - 0) es) → Untouched r l → v ≡ Pending → Judges r v es l i d (record { verdict = v; read = n }) d'
-untouched_judged r l i n es v d d' le ends w h is log rs num now-is have =
+pub untouched_judged : (r : pure.Rule) (l : Line) (i : ℕ) (es group : List Entry) (rest : Bor (List Entry)) (v : Verdict) (d d' : Draft) → group ≡ take (group_size es) es → rest.now ≡ drop (group_size es) es → Adds d d' group → Untouched r l → v ≡ Pending → Judges r v es l i d (record { verdict = v; rest = rest }) d'
+untouched_judged r l i es group rest v d d' front back w h is log rs num now-is have =
     let s = steps_right r unbound log (sym now-is ∙ is) in
     let o = s.left_open in
-    let t = group_splits 0 es (entries r 1 0 o) (book_sheet rs log) n (have ∙ ap (λ x. x ++ book_sheet rs log) (s.listed 1 0)) (group r 1 0 o) (shallow_book rs log) le ends in
-    let e : n - 0 ≡ n = omega arith in
+    let t = group_splits 0 es (entries r 1 0 o) (book_sheet rs log) (have ∙ ap (λ x. x ++ book_sheet rs log) (s.listed 1 0)) (listed.group r 1 0 o) (shallow_book rs log) in
     record {
       verdict_is = now-is ∙ sym (verdict-same r l h unbound 1 log);
-      written = adds_as d d' _ _ (ap (λ k. take k es) e ∙ (t.front ∙ (sym (s.listed 1 0) ∙ sym (sheet-same r l h 1 0 unbound 1 log)))) w;
-      ahead = t.back;
+      written = adds_as d d' _ _ (front ∙ (t.front ∙ (sym (s.listed 1 0) ∙ sym (sheet-same r l h 1 0 unbound 1 log)))) w;
+      ahead = back ∙ t.back;
     }
 
 stays : (r : pure.Rule) (log : List Line) (l : Line) (j : ℕ) → DecidedAt (verdict r log) j → verdict r (log ++ (l ∷ [])) ≡ verdict r log
@@ -93,7 +93,7 @@ decided-stays r log l not = go (verdict r log) refl
     go (Satisfied j) e = stays r log l j (inl e)
     go (Breached j) e = stays r log l j (inr e)
 
-pub decided-judged : (r : pure.Rule) (l : Line) (i : ℕ) (es : List Entry) (v : Verdict) (d : Draft) → (v ≡ Pending → ⊥) → Judges r v es l i d (record { verdict = v; read = 0 }) d
+pub decided-judged : (r : pure.Rule) (l : Line) (i : ℕ) (es : Bor (List Entry)) (v : Verdict) (d : Draft) → (v ≡ Pending → ⊥) → Judges r v es.now l i d (record { verdict = v; rest = es }) d
 decided-judged r l i es v d not log rs num now-is have =
     let was : verdict r log ≡ Pending → ⊥ = λ e. not (now-is ∙ e) in
     let same = decided-stays r log l was in
@@ -104,12 +104,6 @@ decided-judged r l i es v d not log rs num now-is have =
       ahead = have ∙ ap (λ x. x ++ book_sheet rs log) (facts.decided r log was);
     }
 
--- the limits of a book hold of each of its rules
-pub limited_at : (rs : List Rule) (i : ℕ) (d : Rule) → i < length rs → all_nodes (pure_rules rs) ≤ 64 → deepest (pure_rules rs) ≤ 8 → largest (pure_rules rs) ≤ 9999999 → (nodes (pure_rule (get_or rs i d)) ≤ 64) × (depth (pure_rule (get_or rs i d)) ≤ 8) × (rule_number (pure_rule (get_or rs i d)) ≤ 9999999)
-limited_at [] i d h a b c = absurd (omega arith)
-limited_at (r ∷ rs) zero d h a b c = (omega arith, omega arith, omega arith)
-limited_at (r ∷ rs) (suc i) d h a b c = limited_at rs i d (omega arith) (omega arith) (omega arith) (omega arith)
-
 -- one rule more
 sheet-more : (rs : List Rule) (r : Rule) (log : List Line) → book_sheet (pure_rules rs) log ++ rule_sheet (pure_rule r) log ≡ book_sheet (pure_rules (rs ++ (r ∷ []))) log
 sheet-more [] r log = sym (append-nil (rule_sheet (pure_rule r) log))
@@ -119,48 +113,37 @@ verdicts-more : (rs : List Rule) (r : Rule) (log : List Line) → verdicts (pure
 verdicts-more [] r log = refl
 verdicts-more (q ∷ rs) r log = ap (λ x. verdict (pure_rule q) log ∷ x) (verdicts-more rs r log)
 
-verdict_at_lem : (rs : List Rule) (i : ℕ) (d : Rule) (v : Verdict) (log : List Line) → i < length rs → get_or (verdicts (pure_rules rs) log) i v ≡ verdict (pure_rule (get_or rs i d)) log
-verdict_at_lem [] i d v log h = absurd (omega arith)
-verdict_at_lem (r ∷ rs) zero d v log h = refl
-verdict_at_lem (r ∷ rs) (suc i) d v log h = verdict_at_lem rs i d v log (omega arith)
-
--- the rules before i have been judged
-pub record Rolling (rs : List Rule) (i at : ℕ) (es : List Entry) (l : Line) (vs vs' : List Verdict) (d d' : Draft) (log : List Line) : Type 0 where
-  pub ahead : drop at es ≡ book_sheet (pure_rules (drop i rs)) log
-  pub judged : vs' ≡ vs ++ verdicts (pure_rules (take i rs)) (log ++ (l ∷ []))
-  pub written : Adds d d' (book_sheet (pure_rules (take i rs)) (log ++ (l ∷ [])))
-
-abbrev pub Rolls : List Rule → List Verdict → ℕ → ℕ → List Entry → Line → ℕ → List Verdict → List Verdict → Draft → Draft → Type 0
-Rolls rs olds i at es l num vs vs' d d' = (log : List Line) → suc (length log) ≡ num → olds ≡ verdicts (pure_rules rs) log → es ≡ book_sheet (pure_rules rs) log → Rolling rs i at es l vs vs' d d' log
-
-pub rolls_start : (rs : List Rule) (olds : List Verdict) (es : List Entry) (l : Line) (num : ℕ) (vs : List Verdict) (d : Draft) → Rolls rs olds 0 0 es l num vs vs d d
-rolls_start rs olds es l num vs d log n o e = record { ahead = e; judged = sym (append-nil vs); written = adds_none d }
-
-pub rolls_on : (rs : List Rule) (olds : List Verdict) (i at : ℕ) (es : List Entry) (l : Line) (num : ℕ) (vs vs' vs'' : List Verdict) (d d' d'' : Draft) (r : Rule) (v : Verdict) (j : Judged) → i < length rs → r ≡ get_or rs i r → Rolls rs olds i at es l num vs vs' d d' → Judges (pure_rule r) (get_or olds i v) (take (length es - at) (drop at es)) l num d' j d'' → vs'' ≡ vs' ++ (j.verdict ∷ []) → Rolls rs olds (i + 1) (at + j.read) es l num vs vs'' d d''
-rolls_on rs olds i at es l num vs vs' vs'' d d' d'' r v j lt is rolls judges push log n o e =
-    let g = rolls log n o e in
-    let here : drop i rs ≡ r ∷ drop (i + 1) rs = drop_more rs i r lt ∙ ap (λ x. x ∷ drop (i + 1) rs) (sym is) in
-    let more : take (i + 1) rs ≡ take i rs ++ (r ∷ []) = take_more rs i r lt ∙ ap (λ x. take i rs ++ (x ∷ [])) (sym is) in
-    let old = ap (λ x. get_or x i v) o ∙ (verdict_at_lem rs i r v log lt ∙ ap (λ x. verdict (pure_rule x) log) (sym is)) in
-    let t = judges log (pure_rules (drop (i + 1) rs)) n old (take_rest es at ∙ (g.ahead ∙ ap (λ x. book_sheet (pure_rules x) log) here)) in
-    let next = log ++ (l ∷ []) in
+-- a rule, and then those after it
+judges_rest : (r : Rule) (rs : List Rule) (v : Verdict) (olds : List Verdict) (es rest : List Entry) (l : Line) (num : ℕ) (vs vs' vs'' : List Verdict) (d d' d'' : Draft) (j : Judged) → Judges (pure_rule r) v es l num d j d' → rest ≡ j.rest.now → vs' ≡ vs ++ (j.verdict ∷ []) → JudgesAll (pure_rules rs) olds rest l num vs' d' vs'' d'' → JudgesAll (pure_rules (r ∷ rs)) (v ∷ olds) es l num vs d vs'' d''
+judges_rest r rs v olds es rest l num vs vs' vs'' d d' d'' j judges left push all log n o e =
+    let longer = log ++ (l ∷ []) in
+    let old : v ≡ verdict (pure_rule r) log = cc in
+    let others : olds ≡ verdicts (pure_rules rs) log = cc in
+    let t = judges log (pure_rules rs) n old e in
+    let g = all log n others (left ∙ t.ahead) in
     record {
-      ahead = sym (drop-drop j.read at es) ∙ (sym (ap (drop j.read) (take_rest es at)) ∙ t.ahead);
-      judged =
-          push ∙ ((λ k. g.judged k ++ (t.verdict_is k ∷ [])) ∙ (append_assoc vs (verdicts (pure_rules (take i rs)) next) (verdict (pure_rule r) next ∷ [])
-          ∙ ap (λ x. vs ++ x) (verdicts-more (take i rs) r next ∙ ap (λ x. verdicts (pure_rules x) next) (sym more))));
-      written =
-          adds_as d d'' _ _ (sheet-more (take i rs) r next ∙ ap (λ x. book_sheet (pure_rules x) next) (sym more)) (adds_then d d' d'' _ _ g.written t.written);
+      judged = g.judged ∙ (ap (λ x. x ++ verdicts (pure_rules rs) longer) push ∙ (append_assoc vs (j.verdict ∷ []) (verdicts (pure_rules rs) longer) ∙ ap (λ x. vs ++ (x ∷ verdicts (pure_rules rs) longer)) t.verdict_is));
+      written = adds_then d d' d'' _ _ t.written g.written;
     }
 
-pub rolls_end : (rs : List Rule) (olds : List Verdict) (i at : ℕ) (es : List Entry) (l : Line) (num : ℕ) (vs vs' : List Verdict) (d d' : Draft) → length rs ≤ i → Rolls rs olds i at es l num vs vs' d d' → (log : List Line) → suc (length log) ≡ num → olds ≡ verdicts (pure_rules rs) log → es ≡ book_sheet (pure_rules rs) log → JudgedRules (pure_rules rs) (log ++ (l ∷ [])) vs vs' d d'
-rolls_end rs olds i at es l num vs vs' d d' le rolls log n o e =
-    let g = rolls log n o e in
-    let all = take_all i rs le in
-    record {
-      judged = g.judged ∙ ap (λ x. vs ++ verdicts (pure_rules x) (log ++ (l ∷ []))) all;
-      written = adds_as d d' _ _ (ap (λ x. book_sheet (pure_rules x) (log ++ (l ∷ []))) all) g.written;
-    }
+pub judges_more : (all rs : List Rule) (r : Rule) (olds others : List Verdict) (v : Verdict) (es rest : List Entry) (l : Line) (num : ℕ) (vs vs' vs'' : List Verdict) (d d' d'' : Draft) (j : Judged) → all ≡ r ∷ rs → olds ≡ v ∷ others → Judges (pure_rule r) v es l num d j d' → rest ≡ j.rest.now → vs' ≡ vs ++ (j.verdict ∷ []) → JudgesAll (pure_rules rs) others rest l num vs' d' vs'' d'' → JudgesAll (pure_rules all) olds es l num vs d vs'' d''
+judges_more all rs r olds others v es rest l num vs vs' vs'' d d' d'' j held old judges left push h =
+    subst (λ x. JudgesAll (pure_rules x) olds es l num vs d vs'' d'') (sym held)
+    (subst (λ x. JudgesAll (pure_rules (r ∷ rs)) x es l num vs d vs'' d'') (sym old) (judges_rest r rs v others es rest l num vs vs' vs'' d d' d'' j judges left push h))
+
+-- the rules after the first keep the limits too
+pub within_rest : (all rs : List Rule) (r : Rule) → all ≡ r ∷ rs → WithinLimits (pure_rules all) → WithinLimits (pure_rules rs)
+within_rest all rs r held w =
+    let h = subst (λ x. WithinLimits (pure_rules x)) held w in
+    record { count = omega (arith, h.count); size = omega (arith, h.size); nesting = omega (arith, h.nesting); numbers = omega (arith, h.numbers) }
+
+pub covers_rest : (all rs : List Rule) (r : Rule) (kss others : List Kinds) (ks : Kinds) → all ≡ r ∷ rs → kss ≡ ks ∷ others → CoversEach kss (pure_rules all) → CoversEach others (pure_rules rs)
+covers_rest all rs r kss others ks held is c =
+    let h = subst (λ x. CoversEach x (pure_rules (r ∷ rs))) is (subst (λ x. CoversEach kss (pure_rules x)) held c) in
+    h.1
+
+pub judges_none : (olds : List Verdict) (es : List Entry) (l : Line) (num : ℕ) (vs : List Verdict) (d : Draft) → JudgesAll [] olds es l num vs d vs d
+judges_none olds es l num vs d log n o e = record { judged = sym (append-nil vs); written = adds_none d }
 
 -- before any line
 start-verdict : (r : pure.Rule) → verdict r [] ≡ Pending
@@ -184,7 +167,21 @@ opens_end rs i vs vs' d d' le g = subst (λ x. JudgedRules (pure_rules x) [] vs 
 pub opens_start : (vs : List Verdict) (d : Draft) → JudgedRules [] [] vs vs d d
 opens_start vs d = record { judged = sym (append-nil vs); written = adds_none d }
 
-pub placed_at : (rs : List Rule) (i : ℕ) (r : Rule) → i < length rs → r ≡ get_or rs i r → all_nodes (pure_rules rs) ≤ 64 → deepest (pure_rules rs) ≤ 8 → largest (pure_rules rs) ≤ 9999999 → Placed whole (pure_rule r)
-placed_at rs i r lt is a b c =
-    let h = limited_at rs i r lt a b c in
-    subst (λ x. Placed whole (pure_rule x)) (sym is) (record { deep = h.1; levels = omega arith; numbered = omega (arith, h.0); limited = h.2 })
+pub placed_at : (rs : List Rule) (i : ℕ) (r : Rule) → i < length rs → r ≡ get_or rs i r → WithinLimits (pure_rules rs) → Placed whole (pure_rule r)
+placed_at rs i r lt is w = subst (λ x. Placed whole (pure_rule x)) (sym is) (go rs i lt w.size w.nesting w.numbers)
+  where
+    go : (rs : List Rule) (i : ℕ) → i < length rs → all_nodes (pure_rules rs) ≤ 64 → deepest (pure_rules rs) ≤ 8 → largest (pure_rules rs) ≤ 9999999 → Placed whole (pure_rule (get_or rs i r))
+    go [] i lt a b c = absurd (omega arith)
+    go (q ∷ rs) zero lt a b c = record { deep = omega arith; levels = omega arith; numbered = omega arith; limited = omega arith }
+    go (q ∷ rs) (suc i) lt a b c = go rs i (omega arith) (omega arith) (omega arith) (omega arith)
+
+-- the sheet before any line, none of whose entries is left out
+pub record Whole (d : Draft) (rs : List pure.Rule) : Type 0 where
+  pub listed : vec_items d.entries ≡ book_sheet rs []
+  pub fits : Fits (vec_items d.entries)
+
+pub opens_whole : (rs : List pure.Rule) (vs vs' : List Verdict) (d d' : Draft) → all_nodes rs ≤ 64 → JudgedRules rs [] vs vs' d d' → Drafted d [] → Whole d' rs
+opens_whole rs vs vs' d d' size all none =
+    let few : length (book_sheet rs []) ≤ 64 = facts.sheet_facts.fits rs size in
+    let listed : vec_items d'.entries ≡ book_sheet rs [] = all.written [] none ∙ take_all 257 (book_sheet rs []) (omega arith) in
+    record { listed = listed; fits = omega (arith, ap length listed) }

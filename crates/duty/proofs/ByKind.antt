@@ -1,6 +1,5 @@
 -- The step of a rule of each kind, from the steps of what stands inside.
-use Rattle.std.proofs.Common.{◌≡◌, ℕ, suc, ◌+◌, ◌-◌, ◌<◌, ◌≤◌, min, Bool, false, List, [], ◌∷◌, ◌++◌, length, get_or, take, drop, sym, refl, ap, ◌∙◌, subst, append-nil, arith}
-use Rattle.std.proofs.lemmas.List.{take_rest}
+use Rattle.std.proofs.Common.{◌≡◌, ℕ, suc, ◌+◌, ◌<◌, ◌≤◌, Bool, false, List, [], ◌∷◌, ◌++◌, length, get_or, take, drop, sym, refl, ap, ◌∙◌, subst, append-nil, arith, vec_len}
 use Rattle.feed.specs.declared.lines.Line.{Line}
 use Rattle.book.specs.Rules.{Pattern, Rule, duty, trigger, bracket}
 use Rattle.book.specs.Sizes.{nodes, depth}
@@ -10,9 +9,9 @@ use Rattle.book.specs.declared.terms.BracketKind.TheVariants.{Else, And}
 use Rattle.duty.specs.Matching.{Bindings, effect}
 use Rattle.duty.specs.Sheet.{entry}
 use Rattle.duty.specs.Facts.{All, Group}
-use Rattle.duty.specs.Groups.{blank, GroupEnds}
+use Rattle.duty.specs.Groups.{blank, group_size}
 use Rattle.duty.specs.Open.{Open, start, Left, met, missed, still, over, OnceOpen, waiting, running, EachOpen, watch, ElseOpen, first, second, AndOpen, two, left, right, duty_step, once_step, each_step, each_effect, else_step, and_step, Kept, broken, kept, unless_broken, step_duties, step, together, entries, shown}
-use Rattle.duty.specs.Drafts.{Drafted, Adds}
+use Rattle.duty.specs.Drafts.{Drafted, Adds, Cuts}
 use Rattle.duty.specs.Stepping.{outcome, duties_outcome, sides, Came, CameAll, StepsAt, BothStepAt, DutiesStepAt, each_entries, marks, Closes}
 use Rattle.duty.specs.declared.drafts.Draft.{Draft}
 use Rattle.duty.specs.declared.entries.Entry.{Entry}
@@ -24,27 +23,27 @@ use Rattle.duty.specs.declared.outcomes.Sides.TheVariants as of
 use Rattle.duty.specs.declared.places.Place.{Place}
 use Rattle.duty.proofs.Listed.{group, within, In}
 use Rattle.duty.proofs.Splits.{Shallow, group_splits, shallow_group}
-use Rattle.duty.proofs.Written.{adds_then}
+use Rattle.duty.proofs.Written.{counted, adds_then}
 use Rattle.duty.proofs.Ways.{came_as, came_still, came_over, running-entries}
 
 -- what an answer says of what is left
 pub met-is : {A : Type 0} (x : Left A) → Satisfied ≡ outcome x → x ≡ met
 met-is met e = refl
-met-is missed e = let z : ◌≡◌ {A = ℕ} 0 1 = cc in absurd (omega arith)
-met-is (still o) e = let z : ◌≡◌ {A = ℕ} 0 1 = cc in absurd (omega arith)
+met-is missed e = cc
+met-is (still o) e = cc
 
 pub missed-is : {A : Type 0} (x : Left A) → Breached ≡ outcome x → x ≡ missed
-missed-is met e = let z : ◌≡◌ {A = ℕ} 0 1 = cc in absurd (omega arith)
+missed-is met e = cc
 missed-is missed e = refl
-missed-is (still o) e = let z : ◌≡◌ {A = ℕ} 0 1 = cc in absurd (omega arith)
+missed-is (still o) e = cc
 
 pub record Still {A : Type 0} (x : Left A) : Type 0 where
   pub o : A
   pub is : x ≡ still o
 
 pub still-is : {A : Type 0} (x : Left A) → StillOpen ≡ outcome x → Still x
-still-is met e = let z : ◌≡◌ {A = ℕ} 0 1 = cc in absurd (omega arith)
-still-is missed e = let z : ◌≡◌ {A = ℕ} 0 1 = cc in absurd (omega arith)
+still-is met e = cc
+still-is missed e = cc
 still-is (still o) e = record { o = o; is = refl }
 
 -- the head of a group
@@ -66,8 +65,8 @@ some-entry r n lev o g e = subst (λ x. 0 < length x) (sym e) (go (entries r n l
     go (x ∷ es) h = omega arith
 
 -- cutting back undoes what was written
-pub cut_back : (d d' d'' : Draft) (more : List Entry) → Adds d d' more → ((es more : List Entry) → Drafted d' (es ++ more) → d.count ≡ min (length es) 257 → Drafted d'' es) → Adds d d'' []
-cut_back d d' d'' more a c es h = subst (Drafted d'') (sym (append-nil es)) (c es more (a es h) h.count)
+pub cut_back : (d d' d'' : Draft) (more : List Entry) → Adds d d' more → Cuts (vec_len d.entries) d' d'' → Adds d d'' []
+cut_back d d' d'' more a c es h = subst (Drafted d'') (sym (append-nil es)) (c es more (a es h) (counted d es h))
 
 came_met : (r : Rule) (n lev : ℕ) (x : Left (Open r)) (d d' : Draft) → x ≡ met → Adds d d' [] → Came r n lev x d d' Satisfied
 came_met r n lev x d d' e a = came_as r n lev met x d d' Satisfied (sym e) (record { answer = refl; written = a })
@@ -124,13 +123,13 @@ else_first r s n L p' g below l d d' a at b en h lev (first f o) e =
     }
 else_first r s n L p' g below l d d' a at b en h lev (second o) e = let i = head_in s (suc n + nodes r) lev o g e in absurd (omega arith)
 
-pub else_met : (r s : Rule) (n L : ℕ) (p' : Place) (g : List Entry) (l : Line) (d d' d'' d''' : Draft) (x : List Entry) (o : ElseOpen (Open r) (Open s)) → Adds d d' x → First r s n L p' g l d' d'' Satisfied o → ((es more : List Entry) → Drafted d'' (es ++ more) → d.count ≡ min (length es) 257 → Drafted d''' es) → Came (bracket Else r s) n L (step (bracket Else r s) o l) d d''' Satisfied
+pub else_met : (r s : Rule) (n L : ℕ) (p' : Place) (g : List Entry) (l : Line) (d d' d'' d''' : Draft) (x : List Entry) (o : ElseOpen (Open r) (Open s)) → Adds d d' x → First r s n L p' g l d' d'' Satisfied o → Cuts (vec_len d.entries) d'' d''' → Came (bracket Else r s) n L (step (bracket Else r s) o l) d d''' Satisfied
 else_met r s n L p' g l d d' d'' d''' x o w f c =
     let f' = (get_or g 0 blank).letters in
     came_met (bracket Else r s) n L _ d d''' (f.stepped ∙ ap (λ x. else_step f' x (start s f')) (met-is (step r f.inside l) f.came.answer))
     (cut_back d d'' d''' _ (adds_then d d' d'' x _ w f.came.written) c)
 
-pub else_breached : (r s : Rule) (n L : ℕ) (p' p'' : Place) (g : List Entry) (l : Line) (d d' d'' d''' d'''' : Draft) (x : List Entry) (o : ElseOpen (Open r) (Open s)) → Adds d d' x → First r s n L p' g l d' d'' Breached o → ((es more : List Entry) → Drafted d'' (es ++ more) → d.count ≡ min (length es) 257 → Drafted d''' es) → p''.node ≡ n + (1 + nodes r) → p''.level ≡ L → Adds d''' d'''' (entries s p''.node p''.level (start s (get_or g 0 blank).letters)) → Came (bracket Else r s) n L (step (bracket Else r s) o l) d d'''' StillOpen
+pub else_breached : (r s : Rule) (n L : ℕ) (p' p'' : Place) (g : List Entry) (l : Line) (d d' d'' d''' d'''' : Draft) (x : List Entry) (o : ElseOpen (Open r) (Open s)) → Adds d d' x → First r s n L p' g l d' d'' Breached o → Cuts (vec_len d.entries) d'' d''' → p''.node ≡ n + (1 + nodes r) → p''.level ≡ L → Adds d''' d'''' (entries s p''.node p''.level (start s (get_or g 0 blank).letters)) → Came (bracket Else r s) n L (step (bracket Else r s) o l) d d'''' StillOpen
 else_breached r s n L p' p'' g l d d' d'' d''' d'''' x o w f c en el a =
     let f' = (get_or g 0 blank).letters in
     came_still (bracket Else r s) n L _ (second (start s f')) d d'''' (entries s p''.node p''.level (start s f'))
@@ -181,61 +180,61 @@ and_right r s n L p' g l d d' a at le en el h lev (right o) e =
     came_over (bracket And r s) s n L p'.node p'.level right (λ o. right-entries r s n L p'.node p'.level o en el) (step s o l) d d' a
     (h lev o (e ∙ sym (right-entries r s n lev p'.node lev o en refl)))
 
--- both sides of an `and`, and where the first ends
-pub record Sided (r s : Rule) (n lev : ℕ) (g : List Entry) (m : ℕ) (f : Bindings) (o : Open r) (o' : Open s) : Type 0 where
+-- both sides of an `and`
+pub record Sided (r s : Rule) (n lev : ℕ) (g a b : List Entry) (f : Bindings) (o : Open r) (o' : Open s) : Type 0 where
   pub letters : (get_or g 0 blank).letters ≡ f
-  pub front : take m (drop 1 g) ≡ entries r (n + 1) (suc lev) o
-  pub back : drop m (drop 1 g) ≡ entries s (n + (1 + nodes r)) (suc lev) o'
+  pub front : a ≡ entries r (n + 1) (suc lev) o
+  pub back : b ≡ entries s (n + (1 + nodes r)) (suc lev) o'
 
-pub sided : (r s : Rule) (n lev : ℕ) (g : List Entry) (m : ℕ) (f : Bindings) (o : Open r) (o' : Open s) → g ≡ entries (bracket And r s) n lev (two f o o') → m ≤ length (drop 1 g) → GroupEnds (drop 1 g) m → Sided r s n lev g m f o o'
+pub sided : (r s : Rule) (n lev : ℕ) (g below a b : List Entry) (f : Bindings) (o : Open r) (o' : Open s) → g ≡ entries (bracket And r s) n lev (two f o o') → below ≡ drop 1 g → a ≡ take (group_size below) below → b ≡ drop (group_size below) below → Sided r s n lev g a b f o o'
 unfolding entries
-sided r s n lev g m f o o' e w ends =
+sided r s n lev g below x y f o o' e is front back =
     let A = entries r (suc n) (suc lev) o in
     let B = entries s (suc n + nodes r) (suc lev) o' in
-    let t = group_splits (suc lev) (drop 1 g) A B m (ap (drop 1) e) (group r (suc n) (suc lev) o) (subst (Shallow (suc lev)) (append-nil B) (shallow_group (suc lev) B [] (group s (suc n + nodes r) (suc lev) o'))) w ends in
+    let t = group_splits (suc lev) below A B (is ∙ ap (drop 1) e) (group r (suc n) (suc lev) o) (subst (Shallow (suc lev)) (append-nil B) (shallow_group (suc lev) B [] (group s (suc n + nodes r) (suc lev) o'))) in
     let a : suc n ≡ n + 1 = omega arith in
     let b : suc n + nodes r ≡ n + (1 + nodes r) = omega arith in
     record {
       letters = ap (λ x. (get_or x 0 blank).letters) e;
-      front = t.front ∙ (λ i. entries r (a i) (suc lev) o);
-      back = t.back ∙ (λ i. entries s (b i) (suc lev) o');
+      front = front ∙ (t.front ∙ (λ i. entries r (a i) (suc lev) o));
+      back = back ∙ (t.back ∙ (λ i. entries s (b i) (suc lev) o'));
     }
 
 sides-breached : {A B : Type 0} (f : Bindings) (x : Left A) (y : Left B) → of.Breached ≡ sides (outcome x) (outcome y) → and_step f x y ≡ missed
-sides-breached f met met e = let z : ◌≡◌ {A = ℕ} 0 1 = cc in absurd (omega arith)
+sides-breached f met met e = cc
 sides-breached f met missed e = refl
-sides-breached f met (still o) e = let z : ◌≡◌ {A = ℕ} 0 1 = cc in absurd (omega arith)
+sides-breached f met (still o) e = cc
 sides-breached f missed y e = refl
-sides-breached f (still o) met e = let z : ◌≡◌ {A = ℕ} 0 1 = cc in absurd (omega arith)
+sides-breached f (still o) met e = cc
 sides-breached f (still o) missed e = refl
-sides-breached f (still o) (still o') e = let z : ◌≡◌ {A = ℕ} 0 1 = cc in absurd (omega arith)
+sides-breached f (still o) (still o') e = cc
 
 sides-met : {A B : Type 0} (f : Bindings) (x : Left A) (y : Left B) → of.Satisfied ≡ sides (outcome x) (outcome y) → and_step f x y ≡ met
 sides-met f met met e = refl
-sides-met f met missed e = let z : ◌≡◌ {A = ℕ} 0 1 = cc in absurd (omega arith)
-sides-met f met (still o) e = let z : ◌≡◌ {A = ℕ} 0 1 = cc in absurd (omega arith)
-sides-met f missed y e = let z : ◌≡◌ {A = ℕ} 0 1 = cc in absurd (omega arith)
-sides-met f (still o) met e = let z : ◌≡◌ {A = ℕ} 0 1 = cc in absurd (omega arith)
-sides-met f (still o) missed e = let z : ◌≡◌ {A = ℕ} 0 1 = cc in absurd (omega arith)
-sides-met f (still o) (still o') e = let z : ◌≡◌ {A = ℕ} 0 1 = cc in absurd (omega arith)
+sides-met f met missed e = cc
+sides-met f met (still o) e = cc
+sides-met f missed y e = cc
+sides-met f (still o) met e = cc
+sides-met f (still o) missed e = cc
+sides-met f (still o) (still o') e = cc
 
 sides-left : {A B : Type 0} (f : Bindings) (x : Left A) (y : Left B) → of.Left ≡ sides (outcome x) (outcome y) → and_step f x y ≡ over left x
-sides-left f met met e = let z : ◌≡◌ {A = ℕ} 0 1 = cc in absurd (omega arith)
-sides-left f met missed e = let z : ◌≡◌ {A = ℕ} 0 1 = cc in absurd (omega arith)
-sides-left f met (still o) e = let z : ◌≡◌ {A = ℕ} 0 1 = cc in absurd (omega arith)
-sides-left f missed y e = let z : ◌≡◌ {A = ℕ} 0 1 = cc in absurd (omega arith)
+sides-left f met met e = cc
+sides-left f met missed e = cc
+sides-left f met (still o) e = cc
+sides-left f missed y e = cc
 sides-left f (still o) met e = refl
-sides-left f (still o) missed e = let z : ◌≡◌ {A = ℕ} 0 1 = cc in absurd (omega arith)
-sides-left f (still o) (still o') e = let z : ◌≡◌ {A = ℕ} 0 1 = cc in absurd (omega arith)
+sides-left f (still o) missed e = cc
+sides-left f (still o) (still o') e = cc
 
 sides-right : {A B : Type 0} (f : Bindings) (x : Left A) (y : Left B) → of.Right ≡ sides (outcome x) (outcome y) → and_step f x y ≡ over right y
-sides-right f met met e = let z : ◌≡◌ {A = ℕ} 0 1 = cc in absurd (omega arith)
-sides-right f met missed e = let z : ◌≡◌ {A = ℕ} 0 1 = cc in absurd (omega arith)
+sides-right f met met e = cc
+sides-right f met missed e = cc
 sides-right f met (still o) e = refl
-sides-right f missed y e = let z : ◌≡◌ {A = ℕ} 0 1 = cc in absurd (omega arith)
-sides-right f (still o) met e = let z : ◌≡◌ {A = ℕ} 0 1 = cc in absurd (omega arith)
-sides-right f (still o) missed e = let z : ◌≡◌ {A = ℕ} 0 1 = cc in absurd (omega arith)
-sides-right f (still o) (still o') e = let z : ◌≡◌ {A = ℕ} 0 1 = cc in absurd (omega arith)
+sides-right f missed y e = cc
+sides-right f (still o) met e = cc
+sides-right f (still o) missed e = cc
+sides-right f (still o) (still o') e = cc
 
 record BothStill {A B : Type 0} (f : Bindings) (x : Left A) (y : Left B) : Type 0 where
   o : A
@@ -245,12 +244,12 @@ record BothStill {A B : Type 0} (f : Bindings) (x : Left A) (y : Left B) : Type 
   is : and_step f x y ≡ still (two f o o')
 
 sides-both : {A B : Type 0} (f : Bindings) (x : Left A) (y : Left B) → of.Both ≡ sides (outcome x) (outcome y) → BothStill f x y
-sides-both f met met e = let z : ◌≡◌ {A = ℕ} 0 1 = cc in absurd (omega arith)
-sides-both f met missed e = let z : ◌≡◌ {A = ℕ} 0 1 = cc in absurd (omega arith)
-sides-both f met (still o) e = let z : ◌≡◌ {A = ℕ} 0 1 = cc in absurd (omega arith)
-sides-both f missed y e = let z : ◌≡◌ {A = ℕ} 0 1 = cc in absurd (omega arith)
-sides-both f (still o) met e = let z : ◌≡◌ {A = ℕ} 0 1 = cc in absurd (omega arith)
-sides-both f (still o) missed e = let z : ◌≡◌ {A = ℕ} 0 1 = cc in absurd (omega arith)
+sides-both f met met e = cc
+sides-both f met missed e = cc
+sides-both f met (still o) e = cc
+sides-both f missed y e = cc
+sides-both f (still o) met e = cc
+sides-both f (still o) missed e = cc
 sides-both f (still o) (still o') e = record { o = o; o' = o'; first-is = refl; second_is = refl; is = refl }
 
 -- what is known once both sides have stepped
@@ -282,7 +281,7 @@ module _ (r s : Rule) (p p' p'' : Place) (l : Line) (f : Bindings) (o : Open r) 
       ((λ i. entry n L false f ∷ (shown (entries r p'.node p'.level) (t.first-is i) ++ shown (entries s p''.node p''.level) (t.second_is i)))
       ∙ (λ i. entry n L false f ∷ (entries r (a₁ i) (b₁ i) t.o ++ entries s (a₂ i) (b₂ i) t.o')))
 
-  module _ (d₄ : Draft) (c : (es more : List Entry) → Drafted d₃ (es ++ more) → d.count ≡ min (length es) 257 → Drafted d₄ es) where
+  module _ (d₄ : Draft) (c : Cuts (vec_len d.entries) d₃ d₄) where
     undone : Adds d d₄ []
     undone = cut_back d d₃ d₄ _ all_written c
 
@@ -307,8 +306,8 @@ module _ (r s : Rule) (p p' p'' : Place) (l : Line) (f : Bindings) (o : Open r) 
 -- an `each`
 broken-is : {A : Type 0} (ks : Kept A) → Breached ≡ duties_outcome ks → ks ≡ broken
 broken-is broken e = refl
-broken-is (kept []) e = let z : ◌≡◌ {A = ℕ} 0 1 = cc in absurd (omega arith)
-broken-is (kept (x ∷ ds)) e = let z : ◌≡◌ {A = ℕ} 0 1 = cc in absurd (omega arith)
+broken-is (kept []) e = cc
+broken-is (kept (x ∷ ds)) e = cc
 
 record KeptSome {A : Type 0} (ks : Kept A) : Type 0 where
   ds : List A
@@ -334,7 +333,7 @@ each_watched p q s n p' g below l d d' a b en h lev (watch f m ds) e =
       came = h (suc lev) ds (b ∙ (ap (drop 1) e ∙ (λ i. together (entries s (sym en' i) (suc lev)) ds)));
     }
 
-pub each-breached : (p q : Pattern) (s : Rule) (n L : ℕ) (p' : Place) (g : List Entry) (l : Line) (d d₁ d₂ d₃ : Draft) (x : List Entry) (o : EachOpen (Open s)) → Adds d d₁ x → Watched p q s p' g l d₁ d₂ Breached o → ((es more : List Entry) → Drafted d₂ (es ++ more) → d.count ≡ min (length es) 257 → Drafted d₃ es) → Came (trigger Each p q s) n L (step (trigger Each p q s) o l) d d₃ Breached
+pub each-breached : (p q : Pattern) (s : Rule) (n L : ℕ) (p' : Place) (g : List Entry) (l : Line) (d d₁ d₂ d₃ : Draft) (x : List Entry) (o : EachOpen (Open s)) → Adds d d₁ x → Watched p q s p' g l d₁ d₂ Breached o → Cuts (vec_len d.entries) d₂ d₃ → Came (trigger Each p q s) n L (step (trigger Each p q s) o l) d d₃ Breached
 each-breached p q s n L p' g l d d₁ d₂ d₃ x o w f c =
     let E = each_step (get_or g 0 blank).letters (each_effect (get_or g 0 blank).mark (effect p q (get_or g 0 blank).letters l)) (start s) in
     came_missed (trigger Each p q s) n L _ d d₃ (f.stepped ∙ ap (λ ks. unless_broken ks E) (broken-is f.ks f.came.answer))
@@ -349,7 +348,7 @@ each-shown p q s n L n' L' a b (still (watch f m ds)) =
     let b' : L' ≡ suc L = omega arith in
     λ i. entry n L m f ∷ together (entries s (a' i) (b' i)) ds
 
-pub each_closed : (p q : Pattern) (s : Rule) (n L : ℕ) (p' : Place) (g : List Entry) (l : Line) (d d₁ d₂ d₃ : Draft) (m : Effect) (mark : Bool) (a x : Outcome) (o : EachOpen (Open s)) → m ≡ each_effect (get_or g 0 blank).mark (effect p q (get_or g 0 blank).letters l) → mark ≡ marks m → Adds d d₁ (entry n L mark (get_or g 0 blank).letters ∷ []) → p'.node ≡ n + 1 → p'.level ≡ L + 1 → Watched p q s p' g l d₁ d₂ a o → (a ≡ Breached → ⊥) → Closes s p' m a d.count d₂ x d₃ → Came (trigger Each p q s) n L (step (trigger Each p q s) o l) d d₃ x
+pub each_closed : (p q : Pattern) (s : Rule) (n L : ℕ) (p' : Place) (g : List Entry) (l : Line) (d d₁ d₂ d₃ : Draft) (m : Effect) (mark : Bool) (a x : Outcome) (o : EachOpen (Open s)) → m ≡ each_effect (get_or g 0 blank).mark (effect p q (get_or g 0 blank).letters l) → mark ≡ marks m → Adds d d₁ (entry n L mark (get_or g 0 blank).letters ∷ []) → p'.node ≡ n + 1 → p'.level ≡ L + 1 → Watched p q s p' g l d₁ d₂ a o → (a ≡ Breached → ⊥) → Closes s p' m a (vec_len d.entries) d₂ x d₃ → Came (trigger Each p q s) n L (step (trigger Each p q s) o l) d d₃ x
 each_closed p q s n L p' g l d d₁ d₂ d₃ m mark a x o em ek w en el f not c =
     let f' = (get_or g 0 blank).letters in
     let t = kept-is f.ks a f.came.answer not in
@@ -362,41 +361,26 @@ each_closed p q s n L p' g l d d₁ d₂ d₃ m mark a x o em ek w en el f not c
     came_as (trigger Each p q s) n L E _ d d₃ x same
     (record {
       answer = z.answer;
-      written = λ es h. subst (λ y. Drafted d₃ (es ++ y)) (each-shown p q s n L p'.node p'.level en el E) (z.written es (subst (λ y. Drafted d₂ (es ++ y)) both (wrote es h)) h.count);
+      written = λ es h. subst (λ y. Drafted d₃ (es ++ y)) (each-shown p q s n L p'.node p'.level en el E) (z.written es (subst (λ y. Drafted d₂ (es ++ y)) both (wrote es h)) (counted d es h));
     })
 
--- the entries after the head, and those of the two sides, as they are read
-abbrev pub rest : List Entry → List Entry
-rest g = take (length g - 1) (drop 1 g)
+-- the entries after the head, and those of the two sides
+module _ (r s : Rule) (p : Place) (g below x y : List Entry) (is : below ≡ drop 1 g) (front : x ≡ take (group_size below) below) (back : y ≡ drop (group_size below) below) (lev : ℕ) (f : Bindings) (o : Open r) (o' : Open s) (e : g ≡ entries (bracket And r s) p.node lev (two f o o')) where
+  parts : Sided r s p.node lev g x y f o o'
+  parts = sided r s p.node lev g below x y f o o' e is front back
 
-abbrev pub left_read : List Entry → ℕ → List Entry
-left_read g m = take (m - 0) (rest g)
+  pub left_part : (l : Line) (p' : Place) (d d' : Draft) (a : Outcome) → p'.node ≡ p.node + 1 → StepsAt r p' x l d a d' → Came r p'.node p'.level (step r o l) d d' a
+  left_part l p' d d' a en h = h (suc lev) o (parts.front ∙ (λ i. entries r (sym en i) (suc lev) o))
 
-abbrev pub right_read : List Entry → ℕ → List Entry
-right_read g m = take (length (rest g) - m) (drop m (rest g))
+  pub right_part : (l : Line) (p' : Place) (d d' : Draft) (a : Outcome) → p'.node ≡ p.node + (1 + nodes r) → StepsAt s p' y l d a d' → Came s p'.node p'.level (step s o' l) d d' a
+  right_part l p' d d' a en h = h (suc lev) o' (parts.back ∙ (λ i. entries s (sym en i) (suc lev) o'))
 
-left-read : (g : List Entry) (m : ℕ) → left_read g m ≡ take m (drop 1 g)
-left-read g m = let e : m - 0 ≡ m = omega arith in λ i. take (e i) (take_rest g 1 i)
-
-right-read : (g : List Entry) (m : ℕ) → right_read g m ≡ drop m (drop 1 g)
-right-read g m = take_rest (rest g) m ∙ ap (drop m) (take_rest g 1)
-
-module _ (r s : Rule) (p : Place) (g : List Entry) (m : ℕ) (w : m ≤ length (rest g)) (ends : GroupEnds (rest g) m) (lev : ℕ) (f : Bindings) (o : Open r) (o' : Open s) (e : g ≡ entries (bracket And r s) p.node lev (two f o o')) where
-  parts : Sided r s p.node lev g m f o o'
-  parts = sided r s p.node lev g m f o o' e (subst (λ x. m ≤ length x) (take_rest g 1) w) (subst (λ x. GroupEnds x m) (take_rest g 1) ends)
-
-  pub left_part : (l : Line) (p' : Place) (d d' : Draft) (a : Outcome) → p'.node ≡ p.node + 1 → StepsAt r p' (left_read g m) l d a d' → Came r p'.node p'.level (step r o l) d d' a
-  left_part l p' d d' a en h = h (suc lev) o (left-read g m ∙ (parts.front ∙ (λ i. entries r (sym en i) (suc lev) o)))
-
-  pub right_part : (l : Line) (p' : Place) (d d' : Draft) (a : Outcome) → p'.node ≡ p.node + (1 + nodes r) → StepsAt s p' (right_read g m) l d a d' → Came s p'.node p'.level (step s o' l) d d' a
-  right_part l p' d d' a en h = h (suc lev) o' (right-read g m ∙ (parts.back ∙ (λ i. entries s (sym en i) (suc lev) o')))
-
-  pub both_stepped : (l : Line) (p' p'' : Place) (d d₁ d₂ d₃ : Draft) (a b : Outcome) → Adds d d₁ (entry p.node p.level false (get_or g 0 blank).letters ∷ []) → p'.node ≡ p.node + 1 → p'.level ≡ p.level + 1 → p''.node ≡ p.node + (1 + nodes r) → p''.level ≡ p.level + 1 → StepsAt r p' (left_read g m) l d₁ a d₂ → StepsAt s p'' (right_read g m) l d₂ b d₃ → Stepped r s p p' p'' l f o o' d d₁ d₂ d₃ a b
-  both_stepped l p' p'' d d₁ d₂ d₃ a b h en el em ek x y =
+  pub both_stepped : (l : Line) (p' p'' : Place) (d d₁ d₂ d₃ : Draft) (a b : Outcome) → Adds d d₁ (entry p.node p.level false (get_or g 0 blank).letters ∷ []) → p'.node ≡ p.node + 1 → p'.level ≡ p.level + 1 → p''.node ≡ p.node + (1 + nodes r) → p''.level ≡ p.level + 1 → StepsAt r p' x l d₁ a d₂ → StepsAt s p'' y l d₂ b d₃ → Stepped r s p p' p'' l f o o' d d₁ d₂ d₃ a b
+  both_stepped l p' p'' d d₁ d₂ d₃ a b h en el em ek u v =
       record {
         head = subst (λ z. Adds d d₁ (entry p.node p.level false z ∷ [])) parts.letters h;
         left_at = (en, el);
         right_at = (em, ek);
-        left_came = left_part l p' d₁ d₂ a en x;
-        right_came = right_part l p'' d₂ d₃ b em y;
+        left_came = left_part l p' d₁ d₂ a en u;
+        right_came = right_part l p'' d₂ d₃ b em v;
       }

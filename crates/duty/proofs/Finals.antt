@@ -7,13 +7,13 @@ use Rattle.duty.specs.Final.{DecidedAt, Finality}
 use Rattle.duty.proofs.Runs.{V_run}
 
 Pending_not : {X : Type 0} (j : ℕ) → DecidedAt Pending j → X
-Pending_not j (inl e) = let z : ◌≡◌ {A = ℕ} 0 1 = cc in absurd (omega arith)
-Pending_not j (inr e) = let z : ◌≡◌ {A = ℕ} 0 1 = cc in absurd (omega arith)
+Pending_not j (inl e) = cc
+Pending_not j (inr e) = cc
 
 at_line : (i j : ℕ) → DecidedAt (Satisfied i) j ⊎ DecidedAt (Breached i) j → i ≡ j
 at_line i j (inl (inl e)) = cc
-at_line i j (inl (inr e)) = let z : ◌≡◌ {A = ℕ} 0 1 = cc in absurd (omega arith)
-at_line i j (inr (inl e)) = let z : ◌≡◌ {A = ℕ} 0 1 = cc in absurd (omega arith)
+at_line i j (inl (inr e)) = cc
+at_line i j (inr (inl e)) = cc
 at_line i j (inr (inr e)) = cc
 
 -- n lines are left as they are before the deciding one
@@ -48,7 +48,7 @@ stops {A} step o i (l ∷ ls) j d = close (goes step i ls j (λ o. stops step o 
     close g = record { n = g.n; is = g.is; within = omega (arith, g.within); stays = same; not_before = before }
       where
         same : (other : List Line) → take (suc g.n) other ≡ take (suc g.n) (l ∷ ls) → run step o i other ≡ run step o i (l ∷ ls)
-        same [] h = let z : ◌≡◌ {A = ℕ} 0 1 = cc in absurd (omega arith)
+        same [] h = cc
         same (k ∷ other) h =
             let e : k ≡ l = cc in
             let t : take g.n other ≡ take g.n ls = cc in

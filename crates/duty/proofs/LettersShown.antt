@@ -24,9 +24,9 @@ unfolding effect
 acts_match p q f l g h = go (matches q l f) (matches p l f) h
   where
     go : (b a : Option Bindings) → ending b (acting a) ≡ Acts g → a ≡ Some g
-    go None None e = let z : ◌≡◌ {A = ℕ} 0 1 = cc in absurd (omega arith)
+    go None None e = cc
     go None (Some x) e = cc
-    go (Some y) a e = let z : ◌≡◌ {A = ℕ} 0 1 = cc in absurd (omega arith)
+    go (Some y) a e = cc
 
 if_pending_lem : (P : Entry → Type 0) (v : Verdict) (es : List Entry) → All P es → All P (if_pending v es)
 if_pending_lem P Pending es h = h

@@ -1,10 +1,10 @@
 -- The duties of an `each` step one after the other.
-use Rattle.std.proofs.Common.{◌≡◌, ℕ, ◌+◌, ◌-◌, ◌<◌, ◌≤◌, List, [], ◌∷◌, ◌++◌, length, take, drop, sym, refl, ap, ◌∙◌, subst, append_assoc, append-nil, arith, length-append, length-drop, drop-drop}
-use Rattle.std.proofs.lemmas.List.{drop_all, take_rest}
+use Rattle.std.proofs.Common.{◌≡◌, ℕ, List, [], ◌∷◌, ◌++◌, length, take, drop, sym, refl, ap, ◌∙◌, append_assoc, append-nil, arith, length-append}
+use Rattle.std.proofs.lemmas.List.{nil_from_length}
 use Rattle.feed.specs.declared.lines.Line.{Line}
 use Rattle.book.specs.Rules.{Rule}
 use Rattle.duty.specs.Facts.{Group}
-use Rattle.duty.specs.Groups.{GroupEnds}
+use Rattle.duty.specs.Groups.{group_size}
 use Rattle.duty.specs.Open.{Open, Kept, broken, kept, add_kept, add_duty, step_duties, step, together, entries, shown}
 use Rattle.duty.specs.Drafts.{Adds}
 use Rattle.duty.specs.Stepping.{duties_outcome, Came, CameAll, StepsAt}
@@ -13,7 +13,7 @@ use Rattle.duty.specs.declared.entries.Entry.{Entry}
 use Rattle.duty.specs.declared.outcomes.Outcome.{Outcome}
 use Rattle.duty.specs.declared.outcomes.Outcome.TheVariants.{Satisfied, Breached, Open as StillOpen}
 use Rattle.duty.specs.declared.places.Place.{Place}
-use Rattle.duty.proofs.Listed.{group}
+use Rattle.duty.proofs.Listed as listed
 use Rattle.duty.proofs.Splits.{group_splits, shallow_together}
 use Rattle.duty.proofs.Written.{adds_none, adds_then, adds_as}
 use Rattle.duty.proofs.Ways.{together-more}
@@ -24,17 +24,17 @@ abbrev pub add_front : {A : Type 0} → List A → Kept A → Kept A
 add_front ks broken = broken
 add_front ks (kept ds) = kept (ks ++ ds)
 
--- the duties up to `at` have stepped
-pub record Going (s : Rule) (p : Place) (lev : ℕ) (below : List Entry) (at : ℕ) (ds : List (Open s)) (l : Line) (d d' : Draft) (a : Outcome) : Type 0 where
+-- the duties before those of `more` have stepped
+pub record Going (s : Rule) (p : Place) (lev : ℕ) (more : List Entry) (ds : List (Open s)) (l : Line) (d d' : Draft) (a : Outcome) : Type 0 where
   pub done : List (Open s)
   pub rest : List (Open s)
-  pub ahead : drop at below ≡ together (entries s p.node lev) rest
+  pub ahead : more ≡ together (entries s p.node lev) rest
   pub steps : step_duties (step s) ds l ≡ add_front done (step_duties (step s) rest l)
   pub written : Adds d d' (together (entries s p.node p.level) done)
   pub so_far : a ≡ duties_outcome (kept done)
 
-abbrev pub Goes : Rule → Place → List Entry → ℕ → Line → Draft → Draft → Outcome → Type 0
-Goes s p below at l d d' a = (lev : ℕ) (ds : List (Open s)) → below ≡ together (entries s p.node lev) ds → Going s p lev below at ds l d d' a
+abbrev pub Goes : Rule → Place → List Entry → List Entry → Line → Draft → Draft → Outcome → Type 0
+Goes s p below more l d d' a = (lev : ℕ) (ds : List (Open s)) → below ≡ together (entries s p.node lev) ds → Going s p lev more ds l d d' a
 
 front-none : {A : Type 0} (ks : Kept A) → ks ≡ add_front [] ks
 front-none broken = refl
@@ -48,52 +48,46 @@ some_more : {A : Type 0} (done : List A) (x : A) → StillOpen ≡ duties_outcom
 some_more [] x = refl
 some_more (e ∷ done) x = refl
 
-pub starts : (s : Rule) (p : Place) (below : List Entry) (l : Line) (d : Draft) → Goes s p below 0 l d d Satisfied
+pub starts : (s : Rule) (p : Place) (below : List Entry) (l : Line) (d : Draft) → Goes s p below below l d d Satisfied
 starts s p below l d lev ds e = record { done = []; rest = ds; ahead = e; steps = front-none (step_duties (step s) ds l); written = adds_none d; so_far = refl }
 
 -- one more duty: its entries are those of the group at the front
-pub record Turn (s : Rule) (p : Place) (lev : ℕ) (below : List Entry) (at n : ℕ) (ds : List (Open s)) (l : Line) (d d' d'' : Draft) (a b : Outcome) : Type 0 where
+pub record Turn (s : Rule) (p : Place) (lev : ℕ) (others : List Entry) (ds : List (Open s)) (l : Line) (d d' d'' : Draft) (a b : Outcome) : Type 0 where
   pub done : List (Open s)
   pub now_one : Open s
   pub rest : List (Open s)
-  pub ahead : drop (at + n) below ≡ together (entries s p.node lev) rest
+  pub ahead : others ≡ together (entries s p.node lev) rest
   pub steps : step_duties (step s) ds l ≡ add_front done (add_duty (step s now_one l) (step_duties (step s) rest l))
   pub written : Adds d d' (together (entries s p.node p.level) done)
   pub so_far : a ≡ duties_outcome (kept done)
   pub came : Came s p.node p.level (step s now_one l) d' d'' b
 
-pub turn : (s : Rule) (p : Place) (below : List Entry) (at n : ℕ) (l : Line) (d d' d'' : Draft) (a b : Outcome) → Goes s p below at l d d' a → at < length below → n ≤ length (drop at below) → GroupEnds (drop at below) n → StepsAt s p (take n (drop at below)) l d' b d'' → (lev : ℕ) (ds : List (Open s)) → below ≡ together (entries s p.node lev) ds → Turn s p lev below at n ds l d d' d'' a b
-turn s p below at n l d d' d'' a b goes lt w ends h lev ds e = go g.rest g.ahead g.steps
+pub turn : (s : Rule) (p : Place) (below more group others : List Entry) (l : Line) (d d' d'' : Draft) (a b : Outcome) → Goes s p below more l d d' a → (length more ≡ 0 → ⊥) → group ≡ take (group_size more) more → others ≡ drop (group_size more) more → StepsAt s p group l d' b d'' → (lev : ℕ) (ds : List (Open s)) → below ≡ together (entries s p.node lev) ds → Turn s p lev others ds l d d' d'' a b
+turn s p below more group others l d d' d'' a b goes some front back h lev ds e = go g.rest g.ahead g.steps
   where
-    g : Going s p lev below at ds l d d' a
+    g : Going s p lev more ds l d d' a
     g = goes lev ds e
 
     E : Open s → List Entry
     E = entries s p.node lev
 
-    go : (rest : List (Open s)) → drop at below ≡ together E rest → step_duties (step s) ds l ≡ add_front g.done (step_duties (step s) rest l) → Turn s p lev below at n ds l d d' d'' a b
-    go [] x y = absurd (omega (arith, ap length x, length-drop at below))
+    go : (rest : List (Open s)) → more ≡ together E rest → step_duties (step s) ds l ≡ add_front g.done (step_duties (step s) rest l) → Turn s p lev others ds l d d' d'' a b
+    go [] x y = absurd (some (ap length x))
     go (o ∷ rest) x y =
-        let t = group_splits lev (drop at below) (E o) (together E rest) n x (group s p.node lev o) (shallow_together lev E (group s p.node lev) rest) w ends in
+        let t = group_splits lev more (E o) (together E rest) x (listed.group s p.node lev o) (shallow_together lev E (listed.group s p.node lev) rest) in
         record {
           done = g.done;
           now_one = o;
           rest = rest;
-          ahead = sym (drop-drop n at below) ∙ t.back;
+          ahead = back ∙ t.back;
           steps = y;
           written = g.written;
           so_far = g.so_far;
-          came = h lev o t.front;
+          came = h lev o (front ∙ t.front);
         }
 
--- the same, of the parts as they are read
-pub turn_read : (s : Rule) (p : Place) (below : List Entry) (at n : ℕ) (l : Line) (d d' d'' : Draft) (a b : Outcome) → Goes s p below at l d d' a → at < length below → n ≤ length (take (length below - at) (drop at below)) → GroupEnds (take (length below - at) (drop at below)) n → StepsAt s p (take (at + n - at) (drop at below)) l d' b d'' → (lev : ℕ) (ds : List (Open s)) → below ≡ together (entries s p.node lev) ds → Turn s p lev below at n ds l d d' d'' a b
-turn_read s p below at n l d d' d'' a b goes lt w ends h =
-    let e : at + n - at ≡ n = omega arith in
-    turn s p below at n l d d' d'' a b goes lt (subst (λ x. n ≤ length x) (take_rest below at) w) (subst (λ x. GroupEnds x n) (take_rest below at) ends) (subst (λ k. StepsAt s p (take k (drop at below)) l d' b d'') e h)
-
-pub turn_met : (s : Rule) (p : Place) (lev : ℕ) (below : List Entry) (at n : ℕ) (ds : List (Open s)) (l : Line) (d d' d'' : Draft) (a : Outcome) → Turn s p lev below at n ds l d d' d'' a Satisfied → Going s p lev below (at + n) ds l d d'' a
-turn_met s p lev below at n ds l d d' d'' a t =
+pub turn_met : (s : Rule) (p : Place) (lev : ℕ) (others : List Entry) (ds : List (Open s)) (l : Line) (d d' d'' : Draft) (a : Outcome) → Turn s p lev others ds l d d' d'' a Satisfied → Going s p lev others ds l d d'' a
+turn_met s p lev others ds l d d' d'' a t =
     let e = met-is (step s t.now_one l) t.came.answer in
     let K = step_duties (step s) t.rest l in
     let h = together (entries s p.node p.level) t.done in
@@ -106,8 +100,8 @@ turn_met s p lev below at n ds l d d' d'' a t =
       so_far = t.so_far;
     }
 
-pub turn_open : (s : Rule) (p : Place) (lev : ℕ) (below : List Entry) (at n : ℕ) (ds : List (Open s)) (l : Line) (d d' d'' : Draft) (a : Outcome) → Turn s p lev below at n ds l d d' d'' a StillOpen → Going s p lev below (at + n) ds l d d'' StillOpen
-turn_open s p lev below at n ds l d d' d'' a t =
+pub turn_open : (s : Rule) (p : Place) (lev : ℕ) (others : List Entry) (ds : List (Open s)) (l : Line) (d d' d'' : Draft) (a : Outcome) → Turn s p lev others ds l d d' d'' a StillOpen → Going s p lev others ds l d d'' StillOpen
+turn_open s p lev others ds l d d' d'' a t =
     let q = still-is (step s t.now_one l) t.came.answer in
     let K = step_duties (step s) t.rest l in
     let E = entries s p.node p.level in
@@ -122,10 +116,10 @@ turn_open s p lev below at n ds l d d' d'' a t =
     }
 
 not_kept : {A X : Type 0} (ds : List A) → broken ≡ kept ds → X
-not_kept ds e = let z : ◌≡◌ {A = ℕ} 0 1 = cc in absurd (omega arith)
+not_kept ds e = cc
 
-pub turn_breached : (s : Rule) (p : Place) (lev : ℕ) (below : List Entry) (at n : ℕ) (ds : List (Open s)) (l : Line) (d d' d'' : Draft) (a : Outcome) → Turn s p lev below at n ds l d d' d'' a Breached → CameAll s p.node p.level (step_duties (step s) ds l) d d'' Breached
-turn_breached s p lev below at n ds l d d' d'' a t =
+pub turn_breached : (s : Rule) (p : Place) (lev : ℕ) (others : List Entry) (ds : List (Open s)) (l : Line) (d d' d'' : Draft) (a : Outcome) → Turn s p lev others ds l d d' d'' a Breached → CameAll s p.node p.level (step_duties (step s) ds l) d d'' Breached
+turn_breached s p lev others ds l d d' d'' a t =
     let e = missed-is (step s t.now_one l) t.came.answer in
     let K = step_duties (step s) t.rest l in
     let is : step_duties (step s) ds l ≡ broken = t.steps ∙ ap (λ x. add_front t.done (add_duty x K)) e in
@@ -139,7 +133,7 @@ turn_breached s p lev below at n ds l d d' d'' a t =
 
 none_left : (s : Rule) (n lev : ℕ) (rest : List (Open s)) → together (entries s n lev) rest ≡ [] → rest ≡ []
 none_left s n lev [] e = refl
-none_left s n lev (o ∷ rest) e = absurd (go (entries s n lev o) (group s n lev o) (ap length e))
+none_left s n lev (o ∷ rest) e = absurd (go (entries s n lev o) (listed.group s n lev o) (ap length e))
   where
     go : (es : List Entry) → Group lev es → length (es ++ together (entries s n lev) rest) ≡ 0 → ⊥
     go [] g k = g
@@ -148,11 +142,11 @@ none_left s n lev (o ∷ rest) e = absurd (go (entries s n lev o) (group s n lev
 kept_same : {A : Type 0} (done ds : List A) → kept (done ++ []) ≡ kept ds → done ≡ ds
 kept_same done ds e = let x : done ++ [] ≡ ds = cc in sym (append-nil done) ∙ x
 
-pub ends : (s : Rule) (p : Place) (below : List Entry) (at : ℕ) (l : Line) (d d' : Draft) (a : Outcome) → Goes s p below at l d d' a → length below ≤ at → (lev : ℕ) (ds : List (Open s)) → below ≡ together (entries s p.node lev) ds → CameAll s p.node p.level (step_duties (step s) ds l) d d' a
-ends s p below at l d d' a goes le lev ds e =
+pub ends : (s : Rule) (p : Place) (below more : List Entry) (l : Line) (d d' : Draft) (a : Outcome) → Goes s p below more l d d' a → length more ≡ 0 → (lev : ℕ) (ds : List (Open s)) → below ≡ together (entries s p.node lev) ds → CameAll s p.node p.level (step_duties (step s) ds l) d d' a
+ends s p below more l d d' a goes none lev ds e =
     let g = goes lev ds e in
-    let none = none_left s p.node lev g.rest (sym g.ahead ∙ drop_all at below le) in
-    let is : step_duties (step s) ds l ≡ kept (g.done ++ []) = g.steps ∙ ap (λ x. add_front g.done (step_duties (step s) x l)) none in
+    let gone = none_left s p.node lev g.rest (sym g.ahead ∙ nil_from_length more none) in
+    let is : step_duties (step s) ds l ≡ kept (g.done ++ []) = g.steps ∙ ap (λ x. add_front g.done (step_duties (step s) x l)) gone in
     record {
       answer = g.so_far ∙ sym (ap duties_outcome (is ∙ ap kept (append-nil g.done)));
       more = together (entries s p.node p.level) g.done;

@@ -1,6 +1,8 @@
 -- Binders and conditions one after the other.
-use Rattle.std.proofs.Common.{◌≡◌, ℕ, zero, suc, ◌+◌, ◌<◌, ◌≤◌, Bool, true, false, cond, not, ◌&&◌, eqb, List, [], ◌∷◌, length, get_or, drop, set, is_some, Some, None, vec_items, Option, Vec, sym, refl, ap, ◌∙◌, subst, arith, get_or-set_other}
+use Rattle.std.proofs.Common.{◌≡◌, ℕ, zero, suc, ◌+◌, ◌<◌, ◌≤◌, Bool, true, false, cond, not, eqb, List, [], ◌∷◌, length, get_or, drop, set, is_some, Some, None, vec_items, Option, Vec, sym, refl, ap, ◌∙◌, subst, inl, inr, arith, get_or-set_other}
+use Rattle.std.specs.Prelude.{option_and_then}
 use borrow.Author.Tests.{clash}
+use Rattle.std.proofs.lemmas.Bool.{not-true, or_cases, or_left, or_right}
 use Rattle.std.proofs.lemmas.List.{at_drop_more}
 use Rattle.feed.specs.Lines.{value}
 use Rattle.feed.specs.declared.lines.Line.{Line}
@@ -16,35 +18,28 @@ use Rattle.book.specs.declared.terms.Operand.TheVariants as operand
 use Rattle.book.specs.declared.terms.Binder.{Binder}
 use Rattle.book.specs.declared.terms.Condition.{Condition}
 use Rattle.book.specs.Rules.{Pattern, lines}
-use Rattle.duty.specs.Clashes.{clashed, clashes}
-use Rattle.duty.specs.Matching.{Bindings, unbound, bound, holds, all_hold, agreed, agrees, and_then, bind, matches, acting, ending, effect}
+use Rattle.duty.specs.Clashes.{clashed, clashes, ruled_out}
+use Rattle.duty.specs.Matching.{Bindings, unbound, bound, all_hold, agreed, agrees, bind, matches, acting, ending, effect}
 use Rattle.duty.specs.declared.matching.Effect.TheVariants.{Ends}
 
 pub bind-none : (bs : List Binder) (i : ℕ) (d : Binder) (l : Line) (f : Bindings) → i < length bs → agrees (get_or bs i d).operand (value l (get_or bs i d).field) f ≡ None → bind (drop i bs) l f ≡ None
-bind-none bs i d l f h e = at_drop_more (λ x. bind x l f) bs i d h ∙ ap (λ x. and_then x (bind (drop (i + 1) bs) l)) e
+bind-none bs i d l f h e = at_drop_more (λ x. bind x l f) bs i d h ∙ ap (λ x. option_and_then (bind (drop (i + 1) bs) l) x) e
 
 pub bind-some : (bs : List Binder) (i : ℕ) (d : Binder) (l : Line) (f g : Bindings) → i < length bs → agrees (get_or bs i d).operand (value l (get_or bs i d).field) f ≡ Some g → bind (drop i bs) l f ≡ bind (drop (i + 1) bs) l g
-bind-some bs i d l f g h e = at_drop_more (λ x. bind x l f) bs i d h ∙ ap (λ x. and_then x (bind (drop (i + 1) bs) l)) e
+bind-some bs i d l f g h e = at_drop_more (λ x. bind x l f) bs i d h ∙ ap (λ x. option_and_then (bind (drop (i + 1) bs) l) x) e
 
-pub hold_not : (cs : List Condition) (i : ℕ) (d : Condition) (f : Bindings) → i < length cs → holds f (get_or cs i d) ≡ false → all_hold f (drop i cs) ≡ false
-hold_not cs i d f h e = at_drop_more (all_hold f) cs i d h ∙ ap (λ x. x && all_hold f (drop (i + 1) cs)) e
+number_of : (cs : List Condition) (i : ℕ) (d : Condition) → i < length cs → conditions_number cs ≤ 9999999 → (sum_number (get_or cs i d).left ≤ 9999999) × (sum_number (get_or cs i d).right ≤ 9999999)
+number_of [] i d h k = absurd (omega arith)
+number_of (c ∷ cs) zero d h k = (omega arith, omega arith)
+number_of (c ∷ cs) (suc i) d h k = number_of cs i d (omega arith) (omega arith)
 
-pub hold_so : (cs : List Condition) (i : ℕ) (d : Condition) (f : Bindings) → i < length cs → holds f (get_or cs i d) ≡ true → all_hold f (drop i cs) ≡ all_hold f (drop (i + 1) cs)
-hold_so cs i d f h e = at_drop_more (all_hold f) cs i d h ∙ ap (λ x. x && all_hold f (drop (i + 1) cs)) e
-
-pub number_at : (cs : List Condition) (i : ℕ) (d : Condition) → i < length cs → conditions_number cs ≤ 9999999 → (sum_number (get_or cs i d).left ≤ 9999999) × (sum_number (get_or cs i d).right ≤ 9999999)
-number_at [] i d h k = absurd (omega arith)
-number_at (c ∷ cs) zero d h k = (omega arith, omega arith)
-number_at (c ∷ cs) (suc i) d h k = number_at cs i d (omega arith) (omega arith)
+pub number_at : (cs : List Condition) (i : ℕ) (c : Condition) → i < length cs → c ≡ get_or cs i c → conditions_number cs ≤ 9999999 → (sum_number c.left ≤ 9999999) × (sum_number c.right ≤ 9999999)
+number_at cs i c h is k = subst (λ x. (sum_number x.left ≤ 9999999) × (sum_number x.right ≤ 9999999)) (sym is) (number_of cs i c h k)
 
 -- a whole pattern
 pub lines_none : (bs : List Binder) (cs : List Condition) (l : Line) (f : Bindings) → bind bs l f ≡ None → matches (lines bs cs) l f ≡ None
 unfolding matches
-lines_none bs cs l f e = ap (λ x. and_then x (λ g. cond (all_hold g cs) (Some g) None)) e
-
-pub lines_test : (bs : List Binder) (cs : List Condition) (l : Line) (f g : Bindings) (b : Bool) → bind bs l f ≡ Some g → b ≡ all_hold g cs → matches (lines bs cs) l f ≡ cond b (Some g) None
-unfolding matches
-lines_test bs cs l f g b e h = ap (λ x. and_then x (λ g. cond (all_hold g cs) (Some g) None)) e ∙ ap (λ x. cond x (Some g) None) (sym h)
+lines_none bs cs l f e = ap (λ x. option_and_then (λ g. cond (all_hold g cs) (Some g) None) x) e
 
 -- what a line does
 pub effect_ends : (p q : Pattern) (f : Bindings) (l : Line) → true ≡ is_some (matches q l f) → Ends ≡ effect p q f l
@@ -52,7 +47,7 @@ unfolding effect
 effect_ends p q f l h = go (matches q l f) h
   where
     go : (x : Option Bindings) → true ≡ is_some x → Ends ≡ ending x (acting (matches p l f))
-    go None e = let z : ◌≡◌ {A = ℕ} 0 1 = cc in absurd (omega arith)
+    go None e = cc
     go (Some g) e = refl
 
 effect_not : (p q : Pattern) (f : Bindings) (l : Line) → false ≡ is_some (matches q l f) → effect p q f l ≡ acting (matches p l f)
@@ -61,7 +56,7 @@ effect_not p q f l h = go (matches q l f) h
   where
     go : (x : Option Bindings) → false ≡ is_some x → ending x (acting (matches p l f)) ≡ acting (matches p l f)
     go None e = refl
-    go (Some g) e = let z : ◌≡◌ {A = ℕ} 0 1 = cc in absurd (omega arith)
+    go (Some g) e = cc
 
 pub effect_is : (p q : Pattern) (f : Bindings) (l : Line) (x : Option Bindings) → false ≡ is_some (matches q l f) → x ≡ matches p l f → acting x ≡ effect p q f l
 effect_is p q f l x h e = ap acting e ∙ sym (effect_not p q f l h)
@@ -73,12 +68,8 @@ bound-stays f i j v y h k = ap (λ o. clashed o y) (get_or-set_other f j i v Non
     apart : i ≡ j → ⊥
     apart e = let z : ◌≡◌ {A = Bool} false true = ap (λ o. clashed o y) (sym k ∙ ap (λ m. get_or f m None) (sym e)) ∙ h in clash z
 
-test_not : (b : Bool) → not b ≡ true → b ≡ false
-test_not true h = sym h
-test_not false h = refl
-
 number_clash : (x y : ℕ) (f : Bindings) → not (eqb x y) ≡ true → cond (eqb x y) (Some f) None ≡ None
-number_clash x y f h = ap (λ b. cond b (Some f) None) (test_not (eqb x y) h)
+number_clash x y f h = ap (λ b. cond b (Some f) None) (not-true (eqb x y) h)
 
 clash_none : (o : Operand) (y : ℕ) (f : Bindings) → clashes o y f ≡ true → agrees o y f ≡ None
 clash_none (operand.Number x) y f h = number_clash x y f h
@@ -94,25 +85,37 @@ clash_stays (operand.Bound a) (operand.Number x) y y' f g h e = go (eqb x y') e
   where
     go : (b : Bool) → cond b (Some f) None ≡ Some g → clashed (bound g a) y ≡ true
     go true k = let s : f ≡ g = cc in subst (λ z. clashed (bound z a) y ≡ true) s h
-    go false k = let z : ◌≡◌ {A = ℕ} 0 1 = cc in absurd (omega arith)
+    go false k = cc
 clash_stays (operand.Bound a) (operand.Bound b) y y' f g h e = go (bound f b) refl e
   where
     same : (t : Bool) → cond t (Some f) None ≡ Some g → clashed (bound g a) y ≡ true
     same true k = let s : f ≡ g = cc in subst (λ z. clashed (bound z a) y ≡ true) s h
-    same false k = let z : ◌≡◌ {A = ℕ} 0 1 = cc in absurd (omega arith)
+    same false k = cc
 
     go : (v : Option ℕ) → bound f b ≡ v → agreed v b y' f ≡ Some g → clashed (bound g a) y ≡ true
     go None k q = let s : set f (letter_index b) (Some y') ≡ g = cc in subst (λ z. clashed (bound z a) y ≡ true) s (bound-stays f (letter_index a) (letter_index b) (Some y') y h k)
     go (Some x) k q = same (eqb x y') q
 
-pub clash_bind : (bs : List Binder) (i : ℕ) (d : Binder) (l : Line) (f : Bindings) → i < length bs → clashes (get_or bs i d).operand (value l (get_or bs i d).field) f ≡ true → bind bs l f ≡ None
-clash_bind [] i d l f h e = absurd (omega arith)
-clash_bind (b ∷ bs) zero d l f h e = ap (λ x. and_then x (bind bs l)) (clash_none b.operand (value l b.field) f e)
-clash_bind (b ∷ bs) (suc i) d l f h e = go (λ g k. clash_bind bs i d l g (omega arith) (clash_stays (get_or bs i d).operand b.operand (value l (get_or bs i d).field) (value l b.field) f g e k)) (agrees b.operand (value l b.field) f) refl
+-- of all binders
+ruled_out_stays : (bs : List Binder) (l : Line) (o : Operand) (y : ℕ) (f g : Bindings) → agrees o y f ≡ Some g → ruled_out bs l f ≡ true → ruled_out bs l g ≡ true
+ruled_out_stays [] l o y f g e h = h
+ruled_out_stays (b ∷ bs) l o y f g e h =
+    elim (or_cases _ _ h) [
+      | inl k ↦ or_left _ _ (clash_stays b.operand o (value l b.field) y f g k e)
+      | inr k ↦ or_right _ _ (ruled_out_stays bs l o y f g e k)
+    ]
+
+pub ruled_out_none : (bs : List Binder) (l : Line) (f : Bindings) → ruled_out bs l f ≡ true → bind bs l f ≡ None
+ruled_out_none [] l f h = absurd (clash h)
+ruled_out_none (b ∷ bs) l f h =
+    elim (or_cases _ _ h) [
+      | inl k ↦ ap (λ x. option_and_then (bind bs l) x) (clash_none b.operand (value l b.field) f k)
+      | inr k ↦ later (λ g e. ruled_out_none bs l g (ruled_out_stays bs l b.operand (value l b.field) f g e k)) (agrees b.operand (value l b.field) f) refl
+    ]
   where
-    go : ((g : Bindings) → agrees b.operand (value l b.field) f ≡ Some g → bind bs l g ≡ None) → (v : Option Bindings) → agrees b.operand (value l b.field) f ≡ v → and_then v (bind bs l) ≡ None
-    go again None k = refl
-    go again (Some g) k = again g k
+    later : ((g : Bindings) → agrees b.operand (value l b.field) f ≡ Some g → bind bs l g ≡ None) → (v : Option Bindings) → agrees b.operand (value l b.field) f ≡ v → option_and_then (bind bs l) v ≡ None
+    later again None e = refl
+    later again (Some g) e = again g e
 
 -- with no letter bound only a number clashes, and so it does under any letters
 clash_any : (o : Operand) (y : ℕ) (f : Bindings) → clashes o y unbound ≡ true → clashes o y f ≡ true
@@ -126,8 +129,16 @@ clash_any (operand.Bound letter.F) y f h = absurd (clash h)
 clash_any (operand.Bound letter.G) y f h = absurd (clash h)
 clash_any (operand.Bound letter.H) y f h = absurd (clash h)
 
-pub clash_always : (bs : List Binder) (i : ℕ) (d : Binder) (l : Line) → i < length bs → clashes (get_or bs i d).operand (value l (get_or bs i d).field) unbound ≡ true → (f : Bindings) → bind bs l f ≡ None
-clash_always bs i d l h e f = clash_bind bs i d l f h (clash_any (get_or bs i d).operand (value l (get_or bs i d).field) f e)
+ruled_out_any : (bs : List Binder) (l : Line) (f : Bindings) → ruled_out bs l unbound ≡ true → ruled_out bs l f ≡ true
+ruled_out_any [] l f h = h
+ruled_out_any (b ∷ bs) l f h =
+    elim (or_cases _ _ h) [
+      | inl k ↦ or_left _ _ (clash_any b.operand (value l b.field) f k)
+      | inr k ↦ or_right _ _ (ruled_out_any bs l f k)
+    ]
+
+pub ruled_out_always : (bs : List Binder) (l : Line) → ruled_out bs l unbound ≡ true → (f : Bindings) → bind bs l f ≡ None
+ruled_out_always bs l h f = ruled_out_none bs l f (ruled_out_any bs l f h)
 
 pub never-none : (p : Held) (l : Line) (f : Bindings) → p ≡ Never → matches (pure_pattern p) l f ≡ None
 unfolding matches

@@ -13,6 +13,10 @@ use Rattle.duty.specs.Matching.{Bindings}
 use Rattle.duty.specs.Sheet.{entry}
 use Rattle.duty.specs.Open.{start, entries}
 
+pub else_kind : (k : BracketKind) → (k ≡ And → ⊥) → k ≡ Else
+else_kind Else not = refl
+else_kind And not = absurd (not refl)
+
 pub opened_else : (R r s : pure.Rule) (k : BracketKind) (n lev n' lev' : ℕ) (f : Bindings) → R ≡ pure.bracket k r s → k ≡ Else → n' ≡ n + 1 → lev' ≡ lev + 1 → entry n lev false f ∷ entries r n' lev' (start r f) ≡ entries R n lev (start R f)
 unfolding entries
 opened_else R r s k n lev n' lev' f is kind en el =

@@ -4,6 +4,7 @@ use mathlib.Core.Logic.{∥∥₁_elim}
 use Rattle.std.proofs.Common.{◌≡◌, ℕ, zero, suc, ◌+◌, ◌<◌, ◌≤◌, Bool, true, false, not, List, [], ◌∷◌, ◌++◌, length, get_or, take, set, is_some, None, sym, refl, ap, ◌∙◌, subst, arith, take_all, get_or-set_other, ne_eqb}
 use mathlib.Core.Bool.{Bool-set}
 use borrow.Author.Tests.{clash}
+use Rattle.std.proofs.lemmas.Bool.{or_left, or_right}
 use Rattle.std.proofs.lemmas.List.{take_more}
 use Rattle.feed.specs.Lines.{value}
 use Rattle.feed.specs.declared.fields.Field.TheVariants.{Kind}
@@ -15,11 +16,11 @@ use Rattle.book.specs.declared.rules.Rule.{Rule}
 use Rattle.book.specs.declared.terms.Binder.{Binder}
 use Rattle.book.specs.declared.terms.Operand.TheVariants.{Number}
 use Rattle.duty.specs.Matching.{Bindings, unbound, bind, matches}
-use Rattle.duty.specs.Clashes.{clashes}
+use Rattle.duty.specs.Clashes.{clashes, ruled_out}
 use Rattle.duty.specs.Untouched.{Unmatched, Untouched, AllUntouched}
 use Rattle.duty.specs.Kinds.{Widened, Covers, CoversAll, CoversEach}
 use Rattle.duty.specs.declared.kinds.Kinds.{Kinds}
-use Rattle.duty.proofs.Matches.{clash_always}
+use Rattle.duty.proofs.Matches.{ruled_out_always}
 
 pub kind_below : (l : Line) → l.kind < 1000
 kind_below l = omega (arith, l.kinded)
@@ -36,10 +37,15 @@ set_leaves xs n k e =
     (sym (get_or-set_other xs n k true true apart) ∙ e, apart)
 
 -- a line of another kind than a binder's number
-pub other_kind : (bs : List Binder) (i : ℕ) (d : Binder) (n : ℕ) (l : Line) → i < length bs → (get_or bs i d).field ≡ Kind → (get_or bs i d).operand ≡ Number n → (l.kind ≡ n → ⊥) → (f : Bindings) → bind bs l f ≡ None
-other_kind bs i d n l lt field operand ne f =
+kind_clashes : (bs : List Binder) (i : ℕ) (d : Binder) (n : ℕ) (l : Line) → i < length bs → (get_or bs i d).field ≡ Kind → (get_or bs i d).operand ≡ Number n → (l.kind ≡ n → ⊥) → ruled_out bs l unbound ≡ true
+kind_clashes [] i d n l lt field operand ne = absurd (omega arith)
+kind_clashes (b ∷ bs) zero d n l lt field operand ne =
     let away : n ≡ l.kind → ⊥ = λ e. ne (sym e) in
-    clash_always bs i d l lt ((λ t. clashes (operand t) (value l (field t)) unbound) ∙ ap not (ne_eqb n l.kind away)) f
+    or_left _ _ ((λ t. clashes (operand t) (value l (field t)) unbound) ∙ ap not (ne_eqb n l.kind away))
+kind_clashes (b ∷ bs) (suc i) d n l lt field operand ne = or_right _ _ (kind_clashes bs i d n l (omega arith) field operand ne)
+
+pub other_kind : (bs : List Binder) (i : ℕ) (d : Binder) (n : ℕ) (l : Line) → i < length bs → (get_or bs i d).field ≡ Kind → (get_or bs i d).operand ≡ Number n → (l.kind ≡ n → ⊥) → (f : Bindings) → bind bs l f ≡ None
+other_kind bs i d n l lt field operand ne f = ruled_out_always bs l (kind_clashes bs i d n l lt field operand ne) f
 
 -- one rule more
 more_untouched : (rs : List Rule) (r : Rule) (l : Line) → AllUntouched (pure_rules rs) l → Untouched (pure_rule r) l → AllUntouched (pure_rules (rs ++ (r ∷ []))) l

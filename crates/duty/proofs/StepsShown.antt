@@ -23,8 +23,8 @@ goes step o i [] h = record { left = o; is = refl; next = λ l. let e : i + 0 �
 goes {A} step o i (k ∷ ls) h = go (λ o h. goes step o (suc i) ls h) (step o k) h refl
   where
     go : ((o : A) → run step o (suc i) ls ≡ Pending → Goes step o (suc i) ls) → (x : Left A) → decide i x (λ o. run step o (suc i) ls) ≡ Pending → step o k ≡ x → Goes step o i (k ∷ ls)
-    go again met h e = let z : ◌≡◌ {A = ℕ} 0 1 = cc in absurd (omega arith)
-    go again missed h e = let z : ◌≡◌ {A = ℕ} 0 1 = cc in absurd (omega arith)
+    go again met h e = cc
+    go again missed h e = cc
     go again (still o') h e =
         let g = again o' h in
         let n : i + suc (length ls) ≡ suc i + length ls = omega arith in

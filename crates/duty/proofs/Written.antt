@@ -1,55 +1,31 @@
 -- What a draft holds after a write, and after it is cut back.
-use Rattle.std.proofs.Common.{◌≡◌, ℕ, ◌+◌, ◌<◌, ◌≤◌, min, Bool, true, false, leb, ◌⊎◌, List, [], ◌∷◌, ◌++◌, length, take, sym, refl, ap, ◌∙◌, subst, inl, inr, append_assoc, append-nil, arith, length-append, length-take, take_all, take-take, take_at, leb-false, leb-true}
+use Rattle.std.proofs.Common.{◌≡◌, ℕ, ◌<◌, ◌≤◌, min, ◌⊎◌, List, [], ◌∷◌, ◌++◌, length, take, sym, ap, ◌∙◌, subst, inl, inr, append_assoc, append-nil, arith, length-append, length-take, take_all, take-take, take_at, vec_len}
 use lib.Seq.{take-append-le}
-use Rattle.std.proofs.lemmas.List.{nil_from_length}
+use Rattle.std.proofs.lemmas.Bool.{cases_lt}
 use Rattle.duty.specs.Drafts.{Drafted, Adds}
 use Rattle.duty.specs.declared.entries.Entry.{Entry}
 use Rattle.duty.specs.declared.drafts.Draft.{Draft}
 
-pub le_or : (a b : ℕ) → (a ≤ b) ⊎ (b < a)
-le_or a b = go (leb a b) refl
+pub stored : (es items items' : List Entry) (e : Entry) → items ≡ take 257 es → length items ≤ 256 → items' ≡ items ++ (e ∷ []) → items' ≡ take 257 (es ++ (e ∷ []))
+stored es items items' e h le p =
+    let short : length es ≤ 256 = omega (arith, ap length h, length-take 257 es) in
+    let longer : length (es ++ (e ∷ [])) ≤ 257 = omega (arith, length-append es (e ∷ [])) in
+    p ∙ (ap (λ x. x ++ (e ∷ [])) (h ∙ take_all 257 es (omega arith)) ∙ sym (take_all 257 (es ++ (e ∷ [])) longer))
+
+pub full : (es items : List Entry) (e : Entry) → items ≡ take 257 es → 256 < length items → items ≡ take 257 (es ++ (e ∷ []))
+full es items e h lt =
+    let long : 257 ≤ length es = omega (arith, ap length h, length-take 257 es) in
+    h ∙ sym (take-append-le 257 es (e ∷ []) long)
+
+pub counted : (d : Draft) (es : List Entry) → Drafted d es → vec_len d.entries ≡ min (length es) 257
+counted d es h = omega (arith, ap length h, length-take 257 es, d.entries.ok.0)
+
+pub cut : (es more items items' : List Entry) (n : ℕ) → items ≡ take 257 (es ++ more) → n ≡ min (length es) 257 → items' ≡ take n items → items' ≡ take 257 es
+cut es more items items' n h k p = p ∙ (ap (take n) h ∙ (take-take n 257 (es ++ more) (omega arith) ∙ go (cases_lt 257 (length es))))
   where
-    go : (t : Bool) → leb a b ≡ t → (a ≤ b) ⊎ (b < a)
-    go true e = inl (leb-true a b e)
-    go false e = inr (leb-false a b e)
-
-pub stored_items : (es items items' : List Entry) (e : Entry) (n : ℕ) → items ≡ take 256 es → n ≡ min (length es) 257 → n < 256 → items' ≡ items ++ (e ∷ []) → items' ≡ take 256 (es ++ (e ∷ []))
-stored_items es items items' e n h k lt p =
-    let short : length es ≤ 256 = omega arith in
-    let short' : length (es ++ (e ∷ [])) ≤ 256 = omega (arith, length-append es (e ∷ [])) in
-    p ∙ (ap (λ x. x ++ (e ∷ [])) (h ∙ take_all 256 es short) ∙ sym (take_all 256 (es ++ (e ∷ [])) short'))
-
-pub stored_count : (es : List Entry) (e : Entry) (n : ℕ) → n ≡ min (length es) 257 → n < 256 → n + 1 ≡ min (length (es ++ (e ∷ []))) 257
-stored_count es e n k lt = omega (arith, length-append es (e ∷ []))
-
-pub full-items : (es items : List Entry) (e : Entry) (n : ℕ) → items ≡ take 256 es → n ≡ min (length es) 257 → 256 ≤ n → items ≡ take 256 (es ++ (e ∷ []))
-full-items es items e n h k le =
-    let long : 256 ≤ length es = omega arith in
-    h ∙ sym (take-append-le 256 es (e ∷ []) long)
-
-pub full-count : (es : List Entry) (e : Entry) (n : ℕ) → n ≡ min (length es) 257 → 256 ≤ n → 257 ≡ min (length (es ++ (e ∷ []))) 257
-full-count es e n k le = omega (arith, length-append es (e ∷ []))
-
-pub cut-items : (es more items items' : List Entry) (n : ℕ) → items ≡ take 256 (es ++ more) → n ≡ min (length es) 257 → items' ≡ take n items → items' ≡ take 256 es
-cut-items es more items items' n h k p = p ∙ (ap (take n) h ∙ go (le_or (length es) 256))
-  where
-    go : (length es ≤ 256) ⊎ (256 < length es) → take n (take 256 (es ++ more)) ≡ take 256 es
-    go (inl le) =
-        let e : n ≡ length es = omega arith in
-        take-take n 256 (es ++ more) (omega arith) ∙ (take_at es more n (sym e) ∙ sym (take_all 256 es le))
-    go (inr lt) =
-        let e : length (take 256 (es ++ more)) ≤ n = omega (arith, length-take 256 (es ++ more)) in
-        take_all n (take 256 (es ++ more)) e ∙ take-append-le 256 es more (omega arith)
-
-pub uncut_items : (es more items : List Entry) (n m : ℕ) → items ≡ take 256 (es ++ more) → m ≡ min (length (es ++ more)) 257 → n ≡ min (length es) 257 → m ≤ n → items ≡ take 256 es
-uncut_items es more items n m h k p le = h ∙ go (le_or (length es) 256)
-  where
-    go : (length es ≤ 256) ⊎ (256 < length es) → take 256 (es ++ more) ≡ take 256 es
-    go (inl s) = let e : more ≡ [] = nil_from_length more (omega (arith, length-append es more)) in rw (e, append-nil)
-    go (inr lt) = take-append-le 256 es more (omega arith)
-
-pub uncut_count : (es more : List Entry) (n m : ℕ) → m ≡ min (length (es ++ more)) 257 → n ≡ min (length es) 257 → m ≤ n → m ≡ min (length es) 257
-uncut_count es more n m k p le = omega (arith, length-append es more)
+    go : (257 < length es) ⊎ (length es ≤ 257) → take n (es ++ more) ≡ take 257 es
+    go (inl lt) = let e : n ≡ 257 = omega arith in ap (λ m. take m (es ++ more)) e ∙ take-append-le 257 es more (omega arith)
+    go (inr le) = let e : n ≡ length es = omega arith in take_at es more n (sym e) ∙ sym (take_all 257 es le)
 
 -- one write after another
 pub adds_none : (d : Draft) → Adds d d []

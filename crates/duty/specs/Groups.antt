@@ -1,12 +1,12 @@
--- Where the group at the front of a list of entries ends. Assumes nothing.
-use Rattle.std.specs.Prelude.{ℕ, ◌<◌, ◌≤◌, false, List, [], length, slice_index_or}
+-- The group at the front of a list of entries. Assumes nothing.
+use Rattle.std.specs.Prelude.{ℕ, ◌+◌, false, List, [], ◌∷◌, nat_lt}
+use Rattle.std.specs.List.{prefix_len}
 use Rattle.duty.specs.declared.entries.Entry.{Entry}
 
 abbrev pub blank : Entry
 blank = record { node = 0; level = 0; mark = false; letters = [] }
 
--- n entries: the head and deeper ones, and the next one, if there is one, is no deeper than the head
-pub record GroupEnds (es : List Entry) (n : ℕ) : Type 0 where
-  pub some : 0 < length es → 1 ≤ n
-  pub deep : (k : ℕ) → 1 ≤ k → k < n → (slice_index_or es 0 blank).level < (slice_index_or es k blank).level
-  pub stops : n < length es → (slice_index_or es n blank).level ≤ (slice_index_or es 0 blank).level
+-- how many entries it has: its head, and the deeper ones that follow
+abbrev pub group_size : List Entry → ℕ
+group_size [] = 0
+group_size (e ∷ es) = 1 + prefix_len (λ x. nat_lt e.level x.level) es

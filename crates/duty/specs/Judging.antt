@@ -1,5 +1,5 @@
 -- The step over the rules of a book. Assumes nothing.
-use Rattle.std.specs.Prelude.{◌≡◌, ℕ, suc, List, [], ◌∷◌, ◌++◌, length, drop}
+use Rattle.std.specs.Prelude.{◌≡◌, ℕ, suc, List, [], ◌∷◌, ◌++◌, length}
 use Rattle.feed.specs.declared.lines.Line.{Line}
 use Rattle.book.specs.Rules.{Rule}
 use Rattle.duty.specs.Verdicts.{verdict, verdicts}
@@ -20,15 +20,15 @@ verdict_at outcome.Breached i = Breached i
 verdict_at outcome.Open i = Pending
 
 -- one rule, whose entries the sheet begins with
-pub record JudgedRule (r : Rule) (log : List Line) (rs : List Rule) (es : List Entry) (d d' : Draft) (j : Judged) (longer : List Line) : Type 0 where
+pub record JudgedRule (r : Rule) (log : List Line) (rs : List Rule) (d d' : Draft) (j : Judged) (longer : List Line) : Type 0 where
   pub verdict_is : j.verdict ≡ verdict r longer
   pub written : Adds d d' (rule_sheet r longer)
-  pub ahead : drop j.read es ≡ book_sheet rs log
+  pub ahead : j.rest.now ≡ book_sheet rs log
 
 abbrev pub Judges : Rule → Verdict → List Entry → Line → ℕ → Draft → Judged → Draft → Type 0
 Judges r v es l i d j d' =
     (log : List Line) (rs : List Rule) → suc (length log) ≡ i → v ≡ verdict r log → es ≡ rule_sheet r log ++ book_sheet rs log
-    → JudgedRule r log rs es d d' j (log ++ (l ∷ []))
+    → JudgedRule r log rs d d' j (log ++ (l ∷ []))
 
 -- all rules
 pub record JudgedRules (rs : List Rule) (longer : List Line) (vs vs' : List Verdict) (d d' : Draft) : Type 0 where

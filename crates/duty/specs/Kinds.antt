@@ -1,5 +1,6 @@
 -- Which lines a set of kinds leaves out. Assumes nothing.
-use Rattle.std.specs.Prelude.{◌≡◌, ℕ, Bool, true, false, List, [], ◌∷◌, slice_index_or}
+use Rattle.std.specs.Prelude.{◌≡◌, ℕ, Bool, true, false, List, slice_index_or}
+use Rattle.std.specs.List.{AllZip}
 use Rattle.feed.specs.declared.lines.Line.{Line}
 use Rattle.book.specs.Rules.{Rule}
 use Rattle.duty.specs.Untouched.{Untouched, AllUntouched}
@@ -27,7 +28,4 @@ CoversAll ks rs = (l : Line) → LeftOut ks l → AllUntouched rs l
 
 -- each rule has a set of its own
 abbrev pub CoversEach : List Kinds → List Rule → Type 0
-CoversEach [] [] = Unit {0}
-CoversEach [] (r ∷ rs) = ⊥
-CoversEach (ks ∷ kss) [] = ⊥
-CoversEach (ks ∷ kss) (r ∷ rs) = Covers ks r × CoversEach kss rs
+CoversEach kss rs = AllZip Covers kss rs

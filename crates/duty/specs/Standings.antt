@@ -6,7 +6,9 @@ use Rattle.book.specs.Trees.{pure_rules}
 use Rattle.book.specs.declared.book.Book.{Book}
 use Rattle.duty.specs.Verdicts.{verdicts}
 use Rattle.duty.specs.Sheet.{book_sheet, Fits}
+use Rattle.duty.specs.Drafts.{Drafted}
 use Rattle.duty.specs.declared.entries.Entry.{Entry}
+use Rattle.duty.specs.declared.findings.Findings.{Findings}
 use Rattle.duty.specs.declared.standings.Standing.{Standing}
 use Rattle.duty.specs.declared.standings.SheetFull.{SheetFull}
 use Rattle.duty.specs.declared.verdicts.Verdict.{Verdict}
@@ -18,10 +20,15 @@ abbrev pub rules_of : Standing → List Rule
 rules_of s = book_rules s.state.book
 
 abbrev pub verdicts_of : Standing → List Verdict
-verdicts_of s = vec_items s.state.verdicts
+verdicts_of s = vec_items s.state.findings.verdicts
 
 abbrev pub sheet_of : Standing → List Entry
-sheet_of s = vec_items s.state.sheet.entries
+sheet_of s = vec_items s.state.findings.sheet.entries
+
+-- nothing found so far
+pub record Blank (f : Findings) : Type 0 where
+  pub none : vec_items f.verdicts ≡ []
+  pub empty : Drafted f.sheet []
 
 -- its verdicts and its sheet are those of the log
 pub record Stands (s : Standing) (log : List Line) : Type 0 where

@@ -1,11 +1,10 @@
 // Writing into a draft.
-ghost use Rattle.std.specs.Prelude.{◌≡◌, min, List, [], ◌∷◌, ◌++◌, length, IfOk};
+ghost use Rattle.std.specs.Prelude.{◌≡◌, [], ◌∷◌, IfOk, vec_len};
 ghost use Rattle.duty.specs.Sheet.{entry};
-ghost use Rattle.duty.specs.Drafts.{Drafted, Adds};
-ghost use Rattle.duty.specs.declared.entries.Entry.{Entry};
+ghost use Rattle.duty.specs.Drafts.{Drafted, Adds, Cuts};
 
 use crate::drafts::{Draft, PLACES};
-use crate::entries::Entry;
+use crate::entries::{Entry, Letters};
 use crate::places::Place;
 use std::alloc::{AllocError, Global};
 
@@ -13,19 +12,23 @@ impl Draft {
     pub(crate) fn new(heap: Global) -> Result<Draft, AllocError>
         ensures { IfOk result (λ d. Drafted d []) }
     {
-        let entries = Vec::with_capacity(heap, PLACES)?;
-        Ok(Draft { entries, count: 0 })
+        let entries = Vec::with_capacity(heap, PLACES + 1)?;
+        Ok(Draft { entries })
+    }
+
+    // How many entries have been written, up to 257.
+    pub(crate) fn count(&self) -> usize
+        ensures { result ≡ vec_len self.now.entries }
+    {
+        self.entries.len()
     }
 
     // One more entry.
     pub(crate) fn push(&mut self, entry: Entry)
         ensures { Adds self.old self.new (entry ∷ []) }
     {
-        if self.count < PLACES {
+        if self.entries.len() <= PLACES {
             self.entries.push_reserved(entry);
-            self.count += 1;
-        } else {
-            self.count = PLACES + 1;
         }
     }
 
@@ -39,7 +42,7 @@ impl Draft {
     }
 
     // An entry of the rule at this place.
-    pub(crate) fn write(&mut self, place: Place, mark: bool, letters: &[Option<u32>; 8])
+    pub(crate) fn write(&mut self, place: Place, mark: bool, letters: &Letters)
         ensures { Adds self.old self.new (entry place.node place.level mark letters.now ∷ []) }
     {
         self.push(Entry {
@@ -52,18 +55,14 @@ impl Draft {
 
     // Back to an earlier count.
     pub(crate) fn cut(&mut self, count: usize)
-        ensures { (es more : List Entry) → Drafted self.old (es ++ more) → count ≡ min (length es) 257 → Drafted self.new es }
+        ensures { Cuts count self.old self.new }
     {
-        if count < self.count {
-            self.entries.truncate(count);
-            self.count = count;
-        }
+        self.entries.truncate(count);
     }
 
     pub(crate) fn clear(&mut self)
         ensures { Drafted self.new [] }
     {
-        self.entries.truncate(0);
-        self.count = 0;
+        self.entries.clear();
     }
 }

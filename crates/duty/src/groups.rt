@@ -1,21 +1,32 @@
 // The entries of a rule: one, and the deeper ones that follow.
-ghost use Rattle.std.specs.Prelude.{◌≡◌, ℕ, ◌<◌, ◌≤◌, length};
-ghost use Rattle.duty.specs.Groups.{GroupEnds};
+ghost use Rattle.std.specs.Prelude.{◌≡◌, ◌<◌, ◌≤◌, length, take, drop};
+ghost use Rattle.duty.specs.Groups.{group_size};
 
 use crate::entries::Entry;
 
+// The entries of a rule that has some.
+#[derive(Clone, Copy)]
+pub struct Group<'a> {
+    pub entries: &'a [Entry],
+    ghost some: { 0 < length entries.now },
+}
+
 // How many entries the group at the front has: its head, and the deeper ones that follow.
-pub(crate) fn group_len(entries: &[Entry]) -> usize
+fn group_size(entries: &[Entry]) -> usize
     ensures within { result ≤ length entries.now }
-    ensures ends { GroupEnds entries.now result }
+    ensures size { result ≡ group_size entries.now }
 {
-    if entries.is_empty() {
+    let Some((head, rest)) = entries.split_first() else {
         return 0;
-    }
-    let level = entries[0].level;
-    let mut n = 1;
-    while n < entries.len() && entries[n].level > level {
-        n += 1;
-    }
-    n
+    };
+    let level = head.level;
+    1 + rest.iter().take_while(|entry| entry.level > level).count()
+}
+
+// The group at the front, and the entries after it.
+pub(crate) fn split_group(entries: &[Entry]) -> (&[Entry], &[Entry])
+    ensures group { result.0.now ≡ take (group_size entries.now) entries.now }
+    ensures rest { result.1.now ≡ drop (group_size entries.now) entries.now }
+{
+    entries.split_at(group_size(entries))
 }

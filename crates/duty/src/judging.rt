@@ -1,13 +1,15 @@
 // One line for the rules of a book, in order.
 ghost use Rattle.std.specs.Prelude.{◌≡◌, ◌+◌, ◌≤◌, [], length, vec_len, vec_capacity};
-ghost use Rattle.book.specs.Sizes.{all_nodes, deepest, largest, nodes, depth, rule_number};
+ghost use Rattle.book.specs.Sizes.{WithinLimits};
 ghost use Rattle.book.specs.Trees.{pure_rule, pure_rules};
 ghost use Rattle.duty.specs.Kinds.{Covers, CoversEach};
+ghost use Rattle.duty.specs.Places.{Placed};
 ghost use Rattle.duty.specs.Judging.{verdict_at, Judges, JudgesAll, JudgedRules};
 
 use crate::drafts::Draft;
 use crate::entries::Entry;
-use crate::groups::group_len;
+use crate::findings::Findings;
+use crate::groups::split_group;
 use crate::kinds::Kinds;
 use crate::openings::open_rule;
 use crate::outcomes::Outcome;
@@ -25,11 +27,11 @@ const RULE: Place = Place {
     budget: 8,
 };
 
-// A rule's verdict after a line, and how many entries it had before it.
+// A rule's verdict after a line, and the entries of the rules after it.
 #[derive(Clone, Copy)]
-pub struct Judged {
+pub struct Judged<'a> {
     pub verdict: Verdict,
-    pub read: usize,
+    pub rest: &'a [Entry],
 }
 
 fn verdict_at(outcome: Outcome, number: u32) -> Verdict
@@ -42,147 +44,74 @@ fn verdict_at(outcome: Outcome, number: u32) -> Verdict
     }
 }
 
-// A decided rule stays so, and has no entries.
-fn judge_rule(
-    rule: &Rule,
-    verdict: Verdict,
-    entries: &[Entry],
-    line: &Line,
-    number: u32,
-    draft: &mut Draft,
-) -> Judged
-    requires size { nodes (pure_rule rule.now) ≤ 64 }
-    requires nesting { depth (pure_rule rule.now) ≤ 8 }
-    requires numbers { rule_number (pure_rule rule.now) ≤ 9999999 }
-    ensures within { result.read ≤ length entries.now }
-    ensures judged { Judges (pure_rule rule.now) verdict entries.now line.now number draft.old result draft.new }
-{
-    match verdict {
-        Verdict::Pending => {
-            let read = group_len(entries);
-            let outcome = step_rule(rule, RULE, &entries[0..read], line, draft);
-            Judged {
-                verdict: verdict_at(outcome, number),
-                read,
-            }
-        }
-        decided => Judged {
-            verdict: decided,
-            read: 0,
-        },
-    }
-}
-
-// The same, where `kinds` has the kinds of line that concern the rule: a line of another kind leaves its entries.
-fn judge_concerned(
+// One line for a rule, where `kinds` has the kinds of line that concern it: a line of another kind leaves its
+// entries. A decided rule stays so, and has no entries.
+fn judge_rule<'a>(
     rule: &Rule,
     kinds: &Kinds,
     verdict: Verdict,
-    entries: &[Entry],
+    entries: &'a [Entry],
     line: &Line,
     number: u32,
     draft: &mut Draft,
-) -> Judged
-    requires size { nodes (pure_rule rule.now) ≤ 64 }
-    requires nesting { depth (pure_rule rule.now) ≤ 8 }
-    requires numbers { rule_number (pure_rule rule.now) ≤ 9999999 }
+) -> Judged<'a>
+    requires placed { Placed RULE (pure_rule rule.now) }
     requires covered { Covers kinds.now (pure_rule rule.now) }
-    ensures within { result.read ≤ length entries.now }
-    ensures judged { Judges (pure_rule rule.now) verdict entries.now line.now number draft.old result draft.new }
+    ensures { Judges (pure_rule rule.now) verdict entries.now line.now number draft.old result draft.new }
 {
-    if kinds.has(line.kind) {
-        return judge_rule(rule, verdict, entries, line, number, draft);
+    let Verdict::Pending = verdict else {
+        return Judged {
+            verdict,
+            rest: entries,
+        };
+    };
+    let (group, rest) = split_group(entries);
+    if !kinds.has(line.kind) {
+        draft.extend(group);
+        return Judged { verdict, rest };
     }
-    match verdict {
-        Verdict::Pending => {
-            let read = group_len(entries);
-            draft.extend(&entries[0..read]);
-            Judged { verdict, read }
-        }
-        decided => Judged {
-            verdict: decided,
-            read: 0,
-        },
+    let outcome = step_rule(rule, RULE, group, line, draft);
+    Judged {
+        verdict: verdict_at(outcome, number),
+        rest,
     }
 }
 
-// Writes the verdicts of the rules and their entries after one more line.
+// Writes what is found of the rules after one more line, where `each` has the kinds of line that concern each rule.
 pub(crate) fn judge_rules(
     rules: &[Rule],
-    verdicts: &[Verdict],
-    sheet: &[Entry],
-    line: &Line,
-    number: u32,
-    next: &mut Vec<Verdict>,
-    draft: &mut Draft,
-)
-    requires size { all_nodes (pure_rules rules.now) ≤ 64 }
-    requires nesting { deepest (pure_rules rules.now) ≤ 8 }
-    requires numbers { largest (pure_rules rules.now) ≤ 9999999 }
-    requires judged { length verdicts.now ≡ length rules.now }
-    requires room { vec_len next.old + length rules.now ≤ vec_capacity next.old }
-    ensures len { vec_len next.new ≡ vec_len next.old + length rules.now }
-    ensures capacity { vec_capacity next.new ≡ vec_capacity next.old }
-    ensures all { JudgesAll (pure_rules rules.now) verdicts.now sheet.now line.now number next.old.items draft.old next.new.items draft.new }
-{
-    let mut at = 0;
-    for i in 0..rules.len() {
-        let judged = judge_rule(&rules[i], verdicts[i], &sheet[at..], line, number, draft);
-        next.push_reserved(judged.verdict);
-        at += judged.read;
-    }
-}
-
-// The same, where `each` has the kinds of line that concern each rule.
-pub(crate) fn judge_concerned_rules(
-    rules: &[Rule],
     each: &[Kinds],
-    verdicts: &[Verdict],
-    sheet: &[Entry],
+    found: &Findings,
     line: &Line,
     number: u32,
-    next: &mut Vec<Verdict>,
-    draft: &mut Draft,
+    next: &mut Findings,
 )
-    requires size { all_nodes (pure_rules rules.now) ≤ 64 }
-    requires nesting { deepest (pure_rules rules.now) ≤ 8 }
-    requires numbers { largest (pure_rules rules.now) ≤ 9999999 }
+    requires within { WithinLimits (pure_rules rules.now) }
     requires covered { CoversEach each.now (pure_rules rules.now) }
-    requires judged { length verdicts.now ≡ length rules.now }
-    requires room { vec_len next.old + length rules.now ≤ vec_capacity next.old }
-    ensures len { vec_len next.new ≡ vec_len next.old + length rules.now }
-    ensures capacity { vec_capacity next.new ≡ vec_capacity next.old }
-    ensures all { JudgesAll (pure_rules rules.now) verdicts.now sheet.now line.now number next.old.items draft.old next.new.items draft.new }
+    requires judged { vec_len found.now.verdicts ≡ length rules.now }
+    requires room { vec_len next.old.verdicts + length rules.now ≤ vec_capacity next.old.verdicts }
+    ensures len { vec_len next.new.verdicts ≡ vec_len next.old.verdicts + length rules.now }
+    ensures capacity { vec_capacity next.new.verdicts ≡ vec_capacity next.old.verdicts }
+    ensures all { JudgesAll (pure_rules rules.now) found.now.verdicts.items found.now.sheet.entries.items line.now number next.old.verdicts.items next.old.sheet next.new.verdicts.items next.new.sheet }
 {
-    let mut at = 0;
-    for i in 0..rules.len() {
-        let entries = &sheet[at..];
-        let judged = judge_concerned(
-            &rules[i],
-            &each[i],
-            verdicts[i],
-            entries,
-            line,
-            number,
-            draft,
-        );
-        next.push_reserved(judged.verdict);
-        at += judged.read;
+    let mut rest = found.sheet.entries.as_slice();
+    for ((rule, kinds), verdict) in rules.iter().zip(each).zip(&found.verdicts) {
+        let judged = judge_rule(rule, kinds, *verdict, rest, line, number, &mut next.sheet);
+        next.verdicts.push_reserved(judged.verdict);
+        rest = judged.rest;
     }
 }
 
-// Writes the verdicts of the rules and their entries before any line.
-pub(crate) fn open_rules(rules: &[Rule], verdicts: &mut Vec<Verdict>, draft: &mut Draft)
-    requires size { all_nodes (pure_rules rules.now) ≤ 64 }
-    requires nesting { deepest (pure_rules rules.now) ≤ 8 }
-    requires numbers { largest (pure_rules rules.now) ≤ 9999999 }
-    requires room { vec_len verdicts.old + length rules.now ≤ vec_capacity verdicts.old }
-    ensures len { vec_len verdicts.new ≡ vec_len verdicts.old + length rules.now }
-    ensures capacity { vec_capacity verdicts.new ≡ vec_capacity verdicts.old }
-    ensures all { JudgedRules (pure_rules rules.now) [] verdicts.old.items verdicts.new.items draft.old draft.new }
+// Writes what is found of the rules before any line.
+pub(crate) fn open_rules(rules: &[Rule], found: &mut Findings)
+    requires within { WithinLimits (pure_rules rules.now) }
+    requires room { vec_len found.old.verdicts + length rules.now ≤ vec_capacity found.old.verdicts }
+    ensures len { vec_len found.new.verdicts ≡ vec_len found.old.verdicts + length rules.now }
+    ensures capacity { vec_capacity found.new.verdicts ≡ vec_capacity found.old.verdicts }
+    ensures all { JudgedRules (pure_rules rules.now) [] found.old.verdicts.items found.new.verdicts.items found.old.sheet found.new.sheet }
 {
-    for i in 0..rules.len() {
-        open_rule(&rules[i], RULE, &[None; 8], draft);
-        verdicts.push_reserved(Verdict::Pending);
+    for rule in rules {
+        open_rule(rule, RULE, &[None; 8], &mut found.sheet);
+        found.verdicts.push_reserved(Verdict::Pending);
     }
 }

@@ -24,11 +24,8 @@ pub struct Kinds {
 fn kind_number(binder: Binder) -> Option<u32>
     ensures { IfSome result (λ n. (binder.field ≡ Kind) × (binder.operand ≡ Number n)) }
 {
-    match binder.field {
-        Field::Kind => match binder.operand {
-            Operand::Number(number) => Some(number),
-            Operand::Bound(_) => None,
-        },
+    match (binder.field, binder.operand) {
+        (Field::Kind, Operand::Number(number)) => Some(number),
         _ => None,
     }
 }
@@ -37,6 +34,7 @@ fn kind_number(binder: Binder) -> Option<u32>
 fn kind_asked(binders: &[Binder]) -> Option<u32>
     ensures { IfSome result (λ n. (l : Line) → (l.kind ≢ n) → (f : Bindings) → bind binders.now l f ≡ None) }
 {
+    // A loop, since no lemma of the library ties what `find_map` finds to its place in the list.
     for binder in binders {
         if let Some(number) = kind_number(*binder) {
             return Some(number);
@@ -116,6 +114,7 @@ impl Kinds {
     pub(crate) fn of_each(heap: Global, rules: &[Rule]) -> Result<Vec<Kinds>, AllocError>
         ensures { IfOk result (λ kss. CoversEach kss.items (pure_rules rules.now)) }
     {
+        // A loop, since the library's lemmas of `map` and `collect` want a closure that is a function of its item.
         let mut each = Vec::new(heap);
         for rule in rules {
             each.push(Kinds::of_rule(rule))?;

@@ -8,50 +8,36 @@ ghost use Rattle.duty.specs.Steps.{StepsRight};
 ghost use Rattle.duty.specs.Untouched.{UntouchedStays};
 
 // The worked logs come out as told.
-pub fn worked_logs() -> u8
+pub fn worked_logs()
     ensures { WorkedLogs }
-{
-    0
-}
+{}
 
 // Verdicts may be joined in any order.
-pub fn joins_regroup() -> u8
+pub fn joins_regroup()
     ensures { JoinLaws }
-{
-    0
-}
+{}
 
 // A verdict that is given stays.
-pub fn verdicts_stay() -> u8
+pub fn verdicts_stay()
     ensures { Finality }
-{
-    0
-}
+{}
 
 // A duty keeps the letters of its opening, and nothing outside it has them.
-pub fn letters_stay() -> u8
+pub fn letters_stay()
     ensures { LettersStay }
-{
-    0
-}
+{}
 
 // A rule has entries exactly while it is pending, within its nodes and its depth.
-pub fn sheets_stand() -> u8
+pub fn sheets_stand()
     ensures { SheetFacts }
-{
-    0
-}
+{}
 
 // What is open of a rule is enough to go on by a line.
-pub fn lines_step() -> u8
+pub fn lines_step()
     ensures { StepsRight }
-{
-    0
-}
+{}
 
 // A line that no pattern of a rule matches changes nothing of it.
-pub fn untouched_stay() -> u8
+pub fn untouched_stay()
     ensures { UntouchedStays }
-{
-    0
-}
+{}

@@ -4,6 +4,7 @@
 mod drafting;
 mod drafts;
 pub mod entries;
+mod findings;
 mod groups;
 mod judging;
 mod kinds;

@@ -7,6 +7,7 @@ ghost use Rattle.duty.specs.Drafts.{Adds};
 ghost use Rattle.duty.specs.Places.{Placed};
 
 use crate::drafts::Draft;
+use crate::entries::Letters;
 use crate::places::Place;
 use book::rules::Rule;
 use book::terms::BracketKind;
@@ -24,24 +25,16 @@ pub(crate) fn count_nodes(rule: &Rule) -> u8
 }
 
 // Writes the entries of a rule that begins under these letters.
-pub(crate) fn open_rule(rule: &Rule, place: Place, letters: &[Option<u32>; 8], draft: &mut Draft)
+pub(crate) fn open_rule(rule: &Rule, place: Place, letters: &Letters, draft: &mut Draft)
     requires { Placed place (pure_rule rule.now) }
     ensures { Adds draft.old draft.new (entries (pure_rule rule.now) place.node place.level (start (pure_rule rule.now) letters.now)) }
 {
     draft.write(place, false, letters);
-    match rule {
-        Rule::Bracket(kind, first, second) => {
-            open_rule(first, place.below(1), letters, draft);
-            match kind {
-                BracketKind::Else => {}
-                BracketKind::And => open_rule(
-                    second,
-                    place.below(1 + count_nodes(first)),
-                    letters,
-                    draft,
-                ),
-            }
+    if let Rule::Bracket(kind, first, second) = rule {
+        open_rule(first, place.below(1), letters, draft);
+        if let BracketKind::And = kind {
+            let place = place.below(1 + count_nodes(first));
+            open_rule(second, place, letters, draft);
         }
-        _ => {}
     }
 }

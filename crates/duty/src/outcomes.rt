@@ -22,17 +22,11 @@ pub enum Sides {
 pub(crate) fn sides_of(left: Outcome, right: Outcome) -> Sides
     ensures { result ≡ sides left right }
 {
-    match left {
-        Outcome::Breached => Sides::Breached,
-        Outcome::Satisfied => match right {
-            Outcome::Breached => Sides::Breached,
-            Outcome::Satisfied => Sides::Satisfied,
-            Outcome::Open => Sides::Right,
-        },
-        Outcome::Open => match right {
-            Outcome::Breached => Sides::Breached,
-            Outcome::Satisfied => Sides::Left,
-            Outcome::Open => Sides::Both,
-        },
+    match (left, right) {
+        (Outcome::Breached, _) | (_, Outcome::Breached) => Sides::Breached,
+        (Outcome::Satisfied, Outcome::Satisfied) => Sides::Satisfied,
+        (Outcome::Satisfied, Outcome::Open) => Sides::Right,
+        (Outcome::Open, Outcome::Satisfied) => Sides::Left,
+        (Outcome::Open, Outcome::Open) => Sides::Both,
     }
 }

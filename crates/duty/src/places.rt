@@ -36,9 +36,8 @@ impl Place {
         ensures budget { result.budget ≡ self.budget - 1 }
     {
         Place {
-            node: self.node + nodes,
             level: self.level + 1,
-            budget: self.budget - 1,
+            ..self.inside(nodes)
         }
     }
 }

@@ -1,5 +1,7 @@
 // One line for a rule and its open entries, walked side by side: each step goes into the entries below, with one
-// level less to go. Entries are read from the old sheet and written to the draft of the next.
+// level less to go. Entries are read from the old sheet and written to the draft of the next. The place and the
+// group, the line and the draft stay parameters of their own: each step changes one of them and hands on the others, so
+// that a struct would be taken apart and put together again at each call.
 ghost use Rattle.std.specs.Prelude.{◌≡◌, ◌<◌, ◌≤◌, length};
 ghost use Rattle.book.specs.Rules.{trigger, bracket};
 ghost use Rattle.book.specs.Trees.{pure_pattern, pure_rule};
@@ -10,7 +12,7 @@ ghost use Rattle.duty.specs.Stepping.{StepsAt, DutiesStepAt, BothStepAt};
 
 use crate::drafts::Draft;
 use crate::entries::Entry;
-use crate::groups::group_len;
+use crate::groups::{Group, split_group};
 use crate::openings::{count_nodes, open_rule};
 use crate::outcomes::{Outcome, Sides, sides_of};
 use crate::places::Place;
@@ -21,24 +23,25 @@ use book::rules::{Pattern, Rule};
 use book::terms::{BracketKind, TriggerKind};
 use feed::lines::Line;
 
-// What one line leaves of a rule whose entries are this group; a decided rule writes none.
+// What one line leaves of a rule whose entries are these; a decided rule has none, and writes none.
 #[cycle(steps)]
 pub(crate) fn step_rule(
     rule: &Rule,
     place: Place,
-    group: &[Entry],
+    entries: &[Entry],
     line: &Line,
     draft: &mut Draft,
 ) -> Outcome
     requires { Placed place (pure_rule rule.now) }
-    ensures { StepsAt (pure_rule rule.now) place group.now line.now draft.old result draft.new }
+    ensures { StepsAt (pure_rule rule.now) place entries.now line.now draft.old result draft.new }
 {
-    if group.is_empty() {
+    if entries.is_empty() {
         return Outcome::Satisfied;
     }
+    let group = Group { entries };
     match rule {
         Rule::Duty(kind, act, deadline) => {
-            let letters = &group[0].letters;
+            let letters = &entries[0].letters;
             step_duty(*kind, act, deadline, place, letters, line, draft)
         }
         Rule::Trigger(kind, start, end, duty) => match kind {
@@ -59,19 +62,18 @@ fn step_once(
     end: &Pattern,
     duty: &Rule,
     place: Place,
-    group: &[Entry],
+    group: Group,
     line: &Line,
     draft: &mut Draft,
 ) -> Outcome
-    requires placed { Placed place (trigger Once (pure_pattern start.now) (pure_pattern end.now) (pure_rule duty.now)) }
-    requires some { 0 < length group.now }
-    ensures { StepsAt (trigger Once (pure_pattern start.now) (pure_pattern end.now) (pure_rule duty.now)) place group.now line.now draft.old result draft.new }
+    requires { Placed place (trigger Once (pure_pattern start.now) (pure_pattern end.now) (pure_rule duty.now)) }
+    ensures { StepsAt (trigger Once (pure_pattern start.now) (pure_pattern end.now) (pure_rule duty.now)) place group.entry.entries.now line.now draft.old result draft.new }
 {
-    if group[0].node == place.node {
-        let letters = &group[0].letters;
+    if group.entries[0].node == place.node {
+        let letters = &group.entries[0].letters;
         step_waiting(start, end, duty, place, letters, line, draft)
     } else {
-        step_rule(duty, place.inside(1), group, line, draft)
+        step_rule(duty, place.inside(1), group.entries, line, draft)
     }
 }
 
@@ -82,20 +84,19 @@ fn step_each(
     end: &Pattern,
     duty: &Rule,
     place: Place,
-    group: &[Entry],
+    group: Group,
     line: &Line,
     draft: &mut Draft,
 ) -> Outcome
-    requires placed { Placed place (trigger Each (pure_pattern start.now) (pure_pattern end.now) (pure_rule duty.now)) }
-    requires some { 0 < length group.now }
-    ensures { StepsAt (trigger Each (pure_pattern start.now) (pure_pattern end.now) (pure_rule duty.now)) place group.now line.now draft.old result draft.new }
+    requires { Placed place (trigger Each (pure_pattern start.now) (pure_pattern end.now) (pure_rule duty.now)) }
+    ensures { StepsAt (trigger Each (pure_pattern start.now) (pure_pattern end.now) (pure_rule duty.now)) place group.entry.entries.now line.now draft.old result draft.new }
 {
-    let letters = &group[0].letters;
-    let effect = each_effect(start, end, group[0].mark, letters, line);
-    let count = draft.count;
+    let letters = &group.entries[0].letters;
+    let effect = each_effect(start, end, group.entries[0].mark, letters, line);
+    let count = draft.count();
     draft.write(place, ends_each(effect), letters);
     let inner = place.below(1);
-    match step_duties(duty, inner, &group[1..], line, draft) {
+    match step_duties(duty, inner, &group.entries[1..], line, draft) {
         Outcome::Breached => {
             draft.cut(count);
             Outcome::Breached
@@ -121,15 +122,15 @@ fn step_duties(
         return keep_duties(below, draft);
     }
     let mut left = Outcome::Satisfied;
-    let mut at = 0;
-    while at < below.len() {
-        let n = group_len(&below[at..]);
-        match step_rule(duty, place, &below[at..at + n], line, draft) {
+    let mut rest = below;
+    while !rest.is_empty() {
+        let (group, others) = split_group(rest);
+        match step_rule(duty, place, group, line, draft) {
             Outcome::Satisfied => {}
             Outcome::Breached => return Outcome::Breached,
             Outcome::Open => left = Outcome::Open,
         }
-        at += n;
+        rest = others;
     }
     left
 }
@@ -141,22 +142,21 @@ fn step_else(
     first: &Rule,
     second: &Rule,
     place: Place,
-    group: &[Entry],
+    group: Group,
     line: &Line,
     draft: &mut Draft,
 ) -> Outcome
-    requires placed { Placed place (bracket Else (pure_rule first.now) (pure_rule second.now)) }
-    requires some { 0 < length group.now }
-    ensures { StepsAt (bracket Else (pure_rule first.now) (pure_rule second.now)) place group.now line.now draft.old result draft.new }
+    requires { Placed place (bracket Else (pure_rule first.now) (pure_rule second.now)) }
+    ensures { StepsAt (bracket Else (pure_rule first.now) (pure_rule second.now)) place group.entry.entries.now line.now draft.old result draft.new }
 {
-    if group[0].node != place.node {
+    if group.entries[0].node != place.node {
         let substitute = place.inside(1 + count_nodes(first));
-        return step_rule(second, substitute, group, line, draft);
+        return step_rule(second, substitute, group.entries, line, draft);
     }
-    let letters = &group[0].letters;
-    let count = draft.count;
+    let letters = &group.entries[0].letters;
+    let count = draft.count();
     draft.write(place, false, letters);
-    match step_rule(first, place.below(1), &group[1..], line, draft) {
+    match step_rule(first, place.below(1), &group.entries[1..], line, draft) {
         Outcome::Satisfied => {
             draft.cut(count);
             Outcome::Satisfied
@@ -177,23 +177,22 @@ fn step_and(
     left: &Rule,
     right: &Rule,
     place: Place,
-    group: &[Entry],
+    group: Group,
     line: &Line,
     draft: &mut Draft,
 ) -> Outcome
-    requires placed { Placed place (bracket And (pure_rule left.now) (pure_rule right.now)) }
-    requires some { 0 < length group.now }
-    ensures { StepsAt (bracket And (pure_rule left.now) (pure_rule right.now)) place group.now line.now draft.old result draft.new }
+    requires { Placed place (bracket And (pure_rule left.now) (pure_rule right.now)) }
+    ensures { StepsAt (bracket And (pure_rule left.now) (pure_rule right.now)) place group.entry.entries.now line.now draft.old result draft.new }
 {
-    let node = group[0].node;
+    let node = group.entries[0].node;
     if node == place.node {
         return step_both(left, right, place, group, line, draft);
     }
     let other = place.inside(1 + count_nodes(left));
     if node < other.node {
-        step_rule(left, place.inside(1), group, line, draft)
+        step_rule(left, place.inside(1), group.entries, line, draft)
     } else {
-        step_rule(right, other, group, line, draft)
+        step_rule(right, other, group.entries, line, draft)
     }
 }
 
@@ -204,21 +203,19 @@ fn step_both(
     left: &Rule,
     right: &Rule,
     place: Place,
-    group: &[Entry],
+    group: Group,
     line: &Line,
     draft: &mut Draft,
 ) -> Outcome
-    requires placed { Placed place (bracket And (pure_rule left.now) (pure_rule right.now)) }
-    requires some { 0 < length group.now }
-    ensures { BothStepAt (pure_rule left.now) (pure_rule right.now) place group.now line.now draft.old result draft.new }
+    requires { Placed place (bracket And (pure_rule left.now) (pure_rule right.now)) }
+    ensures { BothStepAt (pure_rule left.now) (pure_rule right.now) place group.entry.entries.now line.now draft.old result draft.new }
 {
-    let below = &group[1..];
-    let n = group_len(below);
+    let (first, second) = split_group(&group.entries[1..]);
     let ahead = 1 + count_nodes(left);
-    let count = draft.count;
-    draft.write(place, false, &group[0].letters);
-    let a = step_rule(left, place.below(1), &below[0..n], line, draft);
-    let b = step_rule(right, place.below(ahead), &below[n..], line, draft);
+    let count = draft.count();
+    draft.write(place, false, &group.entries[0].letters);
+    let a = step_rule(left, place.below(1), first, line, draft);
+    let b = step_rule(right, place.below(ahead), second, line, draft);
     match sides_of(a, b) {
         Sides::Both => Outcome::Open,
         Sides::Breached => {
@@ -231,11 +228,11 @@ fn step_both(
         }
         Sides::Left => {
             draft.cut(count);
-            step_rule(left, place.inside(1), &below[0..n], line, draft)
+            step_rule(left, place.inside(1), first, line, draft)
         }
         Sides::Right => {
             draft.cut(count);
-            step_rule(right, place.inside(ahead), &below[n..], line, draft)
+            step_rule(right, place.inside(ahead), second, line, draft)
         }
     }
 }

@@ -1,18 +1,17 @@
 // Steps that go no deeper: a duty, a trigger that waits, an `each` whose duties have stepped.
-ghost use Rattle.std.specs.Prelude.{◌≡◌, ◌≤◌, T};
+ghost use Rattle.std.specs.Prelude.{◌≡◌, T};
 ghost use Rattle.book.specs.Rules.{duty as duty_rule, trigger};
-ghost use Rattle.book.specs.Sizes.{pattern_number};
 ghost use Rattle.book.specs.Trees.{pure_pattern, pure_rule};
 ghost use Rattle.book.specs.declared.terms.TriggerKind.TheVariants.{Once};
 ghost use Rattle.duty.specs.declared.matching.Effect.TheVariants.{Passes};
-ghost use Rattle.duty.specs.Matching.{Bindings, effect as effect_at};
+ghost use Rattle.duty.specs.Matching.{Bindings, Limited, effect as effect_at};
 ghost use Rattle.duty.specs.Open.{start as starting, duty_step, once_step, each_effect};
 ghost use Rattle.duty.specs.Drafts.{Adds};
 ghost use Rattle.duty.specs.Places.{Placed};
 ghost use Rattle.duty.specs.Stepping.{AtLevel, Came, Closes, PassedBy, marks, some_left};
 
 use crate::drafts::Draft;
-use crate::entries::Entry;
+use crate::entries::{Entry, Letters};
 use crate::matching::{Effect, effect_of, never_matches};
 use crate::openings::open_rule;
 use crate::outcomes::Outcome;
@@ -27,23 +26,17 @@ pub(crate) fn step_duty(
     act: &Pattern,
     deadline: &Pattern,
     place: Place,
-    letters: &[Option<u32>; 8],
+    letters: &Letters,
     line: &Line,
     draft: &mut Draft,
 ) -> Outcome
     requires { Placed place (duty_rule kind (pure_pattern act.now) (pure_pattern deadline.now)) }
     ensures { Came (duty_rule kind (pure_pattern act.now) (pure_pattern deadline.now)) place.node place.level (duty_step kind letters.now (effect_at (pure_pattern act.now) (pure_pattern deadline.now) letters.now line.now)) draft.old draft.new result }
 {
-    match effect_of(act, deadline, line, letters) {
-        Effect::Ends => match kind {
-            DutyKind::Must => Outcome::Breached,
-            DutyKind::MustNot => Outcome::Satisfied,
-        },
-        Effect::Acts(_) => match kind {
-            DutyKind::Must => Outcome::Satisfied,
-            DutyKind::MustNot => Outcome::Breached,
-        },
-        Effect::Passes => {
+    match (effect_of(act, deadline, line, letters), kind) {
+        (Effect::Ends, DutyKind::Must) | (Effect::Acts(_), DutyKind::MustNot) => Outcome::Breached,
+        (Effect::Ends, DutyKind::MustNot) | (Effect::Acts(_), DutyKind::Must) => Outcome::Satisfied,
+        (Effect::Passes, _) => {
             draft.write(place, false, letters);
             Outcome::Open
         }
@@ -56,7 +49,7 @@ pub(crate) fn step_waiting(
     end: &Pattern,
     duty: &Rule,
     place: Place,
-    letters: &[Option<u32>; 8],
+    letters: &Letters,
     line: &Line,
     draft: &mut Draft,
 ) -> Outcome
@@ -81,11 +74,11 @@ pub(crate) fn each_effect(
     start: &Pattern,
     end: &Pattern,
     mark: bool,
-    letters: &[Option<u32>; 8],
+    letters: &Letters,
     line: &Line,
 ) -> Effect
-    requires start { pattern_number (pure_pattern start.now) ≤ 9999999 }
-    requires end { pattern_number (pure_pattern end.now) ≤ 9999999 }
+    requires start { Limited (pure_pattern start.now) }
+    requires end { Limited (pure_pattern end.now) }
     ensures { result ≡ each_effect mark (effect_at (pure_pattern start.now) (pure_pattern end.now) letters.now line.now) }
 {
     if mark {
@@ -98,10 +91,7 @@ pub(crate) fn each_effect(
 pub(crate) fn ends_each(effect: Effect) -> bool
     ensures { result ≡ marks effect }
 {
-    match effect {
-        Effect::Ends => true,
-        _ => false,
-    }
+    matches!(effect, Effect::Ends)
 }
 
 // An `each` whose duties have stepped, none of them to a breach: it is satisfied if it has ended and no duty is
@@ -146,10 +136,10 @@ pub(crate) fn passed_by(rule: &Rule, line: &Line) -> bool
 {
     match rule {
         Rule::Duty(_, act, deadline) => neither_matches(act, deadline, line),
-        Rule::Trigger(kind, start, end, duty) => match kind {
-            TriggerKind::Once => neither_matches(start, end, line) && passed_by(duty, line),
-            TriggerKind::Each => false,
-        },
+        Rule::Trigger(TriggerKind::Once, start, end, duty) => {
+            neither_matches(start, end, line) && passed_by(duty, line)
+        }
+        Rule::Trigger(TriggerKind::Each, ..) => false,
         Rule::Bracket(_, first, second) => passed_by(first, line) && passed_by(second, line),
     }
 }
@@ -158,7 +148,7 @@ pub(crate) fn passed_by(rule: &Rule, line: &Line) -> bool
 pub(crate) fn stands_at(below: &[Entry], level: u8) -> bool
     ensures { T result → AtLevel level below.now }
 {
-    below.is_empty() || below[0].level == level
+    below.first().is_none_or(|entry| entry.level == level)
 }
 
 // Duties that a line passes by stay as they are.

@@ -3,7 +3,7 @@ ghost use Rattle.std.specs.Prelude.{◌≡◌};
 ghost use Rattle.duty.specs.Verdicts.{join, verdict_numbers};
 
 // What a rule has come to: nothing yet, or satisfied or breached at a line, numbered from 1.
-#[derive(Clone, Copy)]
+#[derive(Clone, Copy, Debug, PartialEq, Eq)]
 pub enum Verdict {
     Pending,
     Satisfied(u32),
@@ -28,8 +28,7 @@ impl Verdict {
     {
         match self {
             Verdict::Pending => 0,
-            Verdict::Satisfied(line) => line,
-            Verdict::Breached(line) => line,
+            Verdict::Satisfied(line) | Verdict::Breached(line) => line,
         }
     }
 
@@ -37,20 +36,12 @@ impl Verdict {
     pub fn join(self, other: Verdict) -> Verdict
         ensures { result ≡ join self other }
     {
-        match self {
-            Verdict::Breached(i) => match other {
-                Verdict::Breached(j) => Verdict::Breached(i.min(j)),
-                _ => Verdict::Breached(i),
-            },
-            Verdict::Pending => match other {
-                Verdict::Breached(j) => Verdict::Breached(j),
-                _ => Verdict::Pending,
-            },
-            Verdict::Satisfied(i) => match other {
-                Verdict::Breached(j) => Verdict::Breached(j),
-                Verdict::Pending => Verdict::Pending,
-                Verdict::Satisfied(j) => Verdict::Satisfied(i.max(j)),
-            },
+        match (self, other) {
+            (Verdict::Breached(i), Verdict::Breached(j)) => Verdict::Breached(i.min(j)),
+            (Verdict::Breached(_), _) => self,
+            (_, Verdict::Breached(_)) => other,
+            (Verdict::Satisfied(i), Verdict::Satisfied(j)) => Verdict::Satisfied(i.max(j)),
+            _ => Verdict::Pending,
         }
     }
 }

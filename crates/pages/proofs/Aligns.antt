@@ -1,21 +1,12 @@
 -- A column from its right end is the column.
-use Rattle.std.proofs.Common.{◌≡◌, ℕ, zero, suc, ◌+◌, ◌-◌, ◌/◌, ◌%◌, ◌^◌, ◌<◌, ◌≤◌, ◌⊎◌, List, [], ◌∷◌, ◌++◌, length, drop, set, replicate, Some, None, decimal, Option, sym, refl, ap, ◌∙◌, inl, inr, append_assoc, append-nil, add-one, arith, length-append, length-drop, le-leb}
+use Rattle.std.proofs.Common.{◌≡◌, ℕ, zero, suc, ◌+◌, ◌-◌, ◌/◌, ◌%◌, ◌^◌, ◌<◌, ◌≤◌, ◌⊎◌, List, [], ◌∷◌, ◌++◌, length, drop, replicate, Some, None, decimal, Option, sym, refl, ap, ◌∙◌, inl, inr, append_assoc, append-nil, add-one, arith, length-append, le-leb}
 use lib.ListN.{length-replicate}
 use borrow.Author.Tests.{lt-leb}
 use Rattle.std.proofs.lemmas.Fmt.{decimal_digit, decimal_step}
-use Rattle.std.proofs.lemmas.List.{drop_all, drop-append-le, drop-replicate, drop-set, replicate_more, length_push}
+use Rattle.std.proofs.lemmas.List.{drop_all, drop-append-le, drop-replicate, replicate_more, length_push}
 use Rattle.std.proofs.lemmas.Bool.{cond-true, cond-false, cases_lt}
 use Rattle.pages.specs.Aligned.{last_byte, in_front, aligned}
-use Rattle.pages.specs.Columns.{blanks, column, cell}
-
-pub length-column : (w n : ℕ) → length (column w n) ≡ w
-unfolding column
-length-column w n =
-    simp (length-drop, length-append, length-replicate) (omega arith)
-
-pub length-cell : (w : ℕ) (x : Option ℕ) → length (cell w x) ≡ w
-length-cell w None = length-replicate w 32
-length-cell w (Some n) = length-column w n
+use Rattle.pages.specs.Columns.{blanks, column}
 
 pub column_fits : (w n : ℕ) → length (decimal n) ≤ w → column w n ≡ blanks (w - length (decimal n)) ++ decimal n
 unfolding column
@@ -59,10 +50,12 @@ aligned-column (suc w) n h = go (cases_lt n 10) (λ k. aligned-column w (n / 10)
         ∙ (ap (λ x. x ++ ((48 + n % 10) ∷ [])) (ih more)
         ∙ sym (column-more w n (48 + n % 10) (decimal (n / 10)) (decimal_step n more h)))
 
--- one byte more of a column is written
-pub aligned_on : (bytes row : List ℕ) (at b : ℕ) (x y : Option ℕ) → 0 < at → at ≤ length row → bytes ≡ aligned at x ++ drop at row → b ≡ last_byte x → y ≡ in_front x → bytes ≡ aligned (at - 1) y ++ drop (at - 1) (set row (at - 1) b)
+pub aligned-nil : (row : List ℕ) (x : Option ℕ) → length row ≡ 0 → row ≡ aligned (length row) x
 unfolding aligned
-aligned_on bytes row zero b x y some within e is next = absurd (omega arith)
-aligned_on bytes row (suc at) b x y some within e is next =
-    let back : suc at - 1 ≡ at = omega arith in
-    rw (back, next, is, drop-set row at (last_byte x) within, add-one) (e ∙ append_assoc (aligned at (in_front x)) (last_byte x ∷ []) (drop (suc at) row))
+aligned-nil [] x e = refl
+aligned-nil (b ∷ row) x e = absurd (omega arith)
+
+-- the last byte is written, and what stands in front of it
+pub aligned_more : (row front : List ℕ) (b : ℕ) (x : Option ℕ) (w : ℕ) (y : Option ℕ) → front ≡ aligned w y → b ≡ last_byte x → y ≡ in_front x → length row ≡ suc w → front ++ (b ∷ []) ≡ aligned (length row) x
+unfolding aligned
+aligned_more row front b x w y is last next long = rw long ((λ i. is i ++ (last i ∷ [])) ∙ ap (λ z. aligned w z ++ (last_byte x ∷ [])) next)

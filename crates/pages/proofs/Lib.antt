@@ -1,5 +1,6 @@
 pub mod Aligns
 mod Fills
+mod RowsMade
 pub mod RowsShown
 pub mod PagesShown
 mod RoomShown

@@ -1,7 +1,8 @@
 -- The rows of a page one after the other.
-use Rattle.std.proofs.Common.{◌≡◌, ℕ, zero, suc, ◌+◌, ◌*◌, ◌<◌, List, [], ◌∷◌, ◌++◌, length, get_or, take, drop, sym, refl, ap, ◌∙◌, append_assoc, append-nil, add-zero, arith, length-append, eq-eqb, ne_eqb}
-use Rattle.std.proofs.lemmas.List.{take_at, drop_at, drop-drop, take_more, length-take-le, at_drop_more}
+use Rattle.std.proofs.Common.{◌≡◌, ℕ, Bool, true, false, Some, None, Option, zero, suc, ◌+◌, ◌*◌, ◌<◌, List, [], ◌∷◌, ◌++◌, length, get_or, take, drop, sym, refl, ap, ◌∙◌, append_assoc, add-zero, arith, length-append, eq-eqb, ne_eqb}
+use Rattle.std.proofs.lemmas.List.{take_at, drop_at, drop-drop}
 use Rattle.std.proofs.lemmas.Bool.{cond-true, cond-false}
+use Rattle.std.specs.List.{position_from}
 use Rattle.feed.specs.declared.lines.Line.{Line}
 use Rattle.book.specs.Rules.{Rule}
 use Rattle.duty.specs.Facts.{Deeper, Group}
@@ -12,7 +13,8 @@ use Rattle.duty.specs.declared.verdicts.Verdict.{Verdict}
 use Rattle.duty.specs.declared.verdicts.Verdict.TheVariants.{Pending, Satisfied, Breached}
 use Rattle.duty.proofs.FactsShown as facts
 use Rattle.pages.specs.Pages.{verdict_row, verdict_rows, entry_row, entry_rows, sheet_from, sheet_page, first_pending, next_pending, rule_of, rows_after, sheet_rows, ShowsSheet}
-use Rattle.pages.proofs.RowsShown.{length-verdict_row, length-entry_row}
+use Rattle.pages.specs.Rows.{rows_of}
+use Rattle.pages.specs.Widths.{length-verdict_row, length-entry_row}
 
 pub length-verdict_rows : (n : ℕ) (vs : List Verdict) → length (verdict_rows n vs) ≡ 15 * length vs
 length-verdict_rows n [] = refl
@@ -38,50 +40,16 @@ verdict-row vs i h =
     let number : 1 + i ≡ suc i = omega arith in
     row_from 1 vs i h ∙ ap (λ k. verdict_row k (get_or vs i Pending)) number
 
-verdict_rows-push : (n : ℕ) (vs : List Verdict) (v : Verdict) → verdict_rows n (vs ++ (v ∷ [])) ≡ verdict_rows n vs ++ verdict_row (length vs + n) v
-verdict_rows-push n [] v = append-nil (verdict_row n v) ∙ ap (λ k. verdict_row k v) (omega arith)
-verdict_rows-push n (u ∷ vs) v =
-    let number : length vs + suc n ≡ suc (length vs) + n = omega arith in
-    ap (λ x. verdict_row n u ++ x) (verdict_rows-push (suc n) vs v ∙ ap (λ k. verdict_rows (suc n) vs ++ verdict_row k v) number)
-    ∙ sym (append_assoc (verdict_row n u) (verdict_rows (suc n) vs) (verdict_row (suc (length vs) + n) v))
+-- the rows of the two pages, as they are written
+pub verdict_rows-made : (i n : ℕ) (vs : List Verdict) → rows_of verdict_row (λ k m v. suc k) i n vs ≡ verdict_rows (suc i) vs
+unfolding rows_of
+verdict_rows-made i n [] = refl
+verdict_rows-made i n (v ∷ vs) = ap (λ x. verdict_row (suc i) v ++ x) (verdict_rows-made (suc i) (suc i) vs)
 
--- one verdict more
-pub verdict_rows-more : (vs : List Verdict) (i : ℕ) (d : Verdict) → i < length vs → verdict_rows 1 (take (i + 1) vs) ≡ verdict_rows 1 (take i vs) ++ verdict_row (i + 1) (get_or vs i d)
-verdict_rows-more vs i d h =
-    ap (verdict_rows 1) (take_more vs i d h)
-    ∙ (verdict_rows-push 1 (take i vs) (get_or vs i d)
-    ∙ ap (λ k. verdict_rows 1 (take i vs) ++ verdict_row (k + 1) (get_or vs i d)) (length-take-le i vs (omega arith)))
-
-pub length-rows_after : (vs : List Verdict) (n : ℕ) (es : List Entry) → length (rows_after vs n es) ≡ 78 * length es
-length-rows_after vs n [] = refl
-length-rows_after vs n (e ∷ es) =
-    let k = rule_of vs n e in
-    length-append (entry_row k e) (rows_after vs k es) ∙ omega (arith, length-entry_row k e, length-rows_after vs k es)
-
--- the rule of the last entry
-unfoldable pub last_rule : List Verdict → ℕ → List Entry → ℕ
-last_rule vs n [] = n
-last_rule vs n (e ∷ es) = last_rule vs (rule_of vs n e) es
-
-last_rule_push : (vs : List Verdict) (n : ℕ) (es : List Entry) (e : Entry) → last_rule vs n (es ++ (e ∷ [])) ≡ rule_of vs (last_rule vs n es) e
-unfolding last_rule
-last_rule_push vs n [] e = refl
-last_rule_push vs n (x ∷ es) e = last_rule_push vs (rule_of vs n x) es e
-
-rows_after-push : (vs : List Verdict) (n : ℕ) (es : List Entry) (e : Entry) → rows_after vs n (es ++ (e ∷ [])) ≡ rows_after vs n es ++ entry_row (rule_of vs (last_rule vs n es) e) e
-unfolding last_rule
-rows_after-push vs n [] e = append-nil (entry_row (rule_of vs n e) e)
-rows_after-push vs n (x ∷ es) e =
-    let k = rule_of vs n x in
-    ap (λ y. entry_row k x ++ y) (rows_after-push vs k es e)
-    ∙ sym (append_assoc (entry_row k x) (rows_after vs k es) (entry_row (rule_of vs (last_rule vs k es) e) e))
-
--- one entry more
-pub last_rule_more : (vs : List Verdict) (es : List Entry) (i : ℕ) (d : Entry) → i < length es → last_rule vs 0 (take (i + 1) es) ≡ rule_of vs (last_rule vs 0 (take i es)) (get_or es i d)
-last_rule_more vs es i d h = ap (last_rule vs 0) (take_more es i d h) ∙ last_rule_push vs 0 (take i es) (get_or es i d)
-
-pub sheet_rows-more : (vs : List Verdict) (es : List Entry) (i : ℕ) (d : Entry) → i < length es → sheet_rows vs (take (i + 1) es) ≡ sheet_rows vs (take i es) ++ entry_row (rule_of vs (last_rule vs 0 (take i es)) (get_or es i d)) (get_or es i d)
-sheet_rows-more vs es i d h = ap (sheet_rows vs) (take_more es i d h) ∙ rows_after-push vs 0 (take i es) (get_or es i d)
+pub rows_after-made : (vs : List Verdict) (i n : ℕ) (es : List Entry) → rows_of entry_row (λ k m e. rule_of vs m e) i n es ≡ rows_after vs n es
+unfolding rows_of
+rows_after-made vs i n [] = refl
+rows_after-made vs i n (e ∷ es) = ap (λ x. entry_row (rule_of vs n e) e ++ x) (rows_after-made vs (suc i) (rule_of vs n e) es)
 
 -- deeper entries are of the same rule
 deeper_rows : (vs : List Verdict) (n : ℕ) (es rest : List Entry) → Deeper 0 es → rows_after vs n (es ++ rest) ≡ entry_rows n es ++ rows_after vs n rest
@@ -151,17 +119,24 @@ length-sheet_from n (r ∷ rs) log =
 pub length-sheet_page : (rs : List Rule) (log : List Line) → length (sheet_page rs log) ≡ 78 * length (book_sheet rs log)
 length-sheet_page rs log = length-sheet_from 1 rs log
 
--- a decided rule is passed
-pub passes_more : (vs : List Verdict) (n i : ℕ) → i < length vs → (get_or vs i Pending ≡ Pending → ⊥) → first_pending n (suc i) (drop i vs) ≡ first_pending n (suc (i + 1)) (drop (i + 1) vs)
-passes_more vs n i h not = at_drop_more (first_pending n (suc i)) vs i Pending h ∙ go (get_or vs i Pending) refl
-  where
-    number : suc (suc i) ≡ suc (i + 1)
-    number = omega arith
+abbrev pub is_pending : Verdict → Bool
+is_pending Pending = true
+is_pending (Satisfied j) = false
+is_pending (Breached j) = false
 
-    go : (v : Verdict) → get_or vs i Pending ≡ v → first_pending n (suc i) (v ∷ drop (i + 1) vs) ≡ first_pending n (suc (i + 1)) (drop (i + 1) vs)
-    go Pending e = absurd (not e)
-    go (Satisfied j) e = ap (λ k. first_pending n k (drop (i + 1) vs)) number
-    go (Breached j) e = ap (λ k. first_pending n k (drop (i + 1) vs)) number
+-- the rule behind k others where i of those that follow are passed, n where none is pending
+abbrev pub reached : ℕ → ℕ → Option ℕ → ℕ
+reached n k None = n
+reached n k (Some i) = k + i
 
-pub stops-pending : (vs : List Verdict) (n i : ℕ) → i < length vs → get_or vs i Pending ≡ Pending → first_pending n (suc i) (drop i vs) ≡ suc i
-stops-pending vs n i h e = at_drop_more (first_pending n (suc i)) vs i Pending h ∙ ap (λ v. first_pending n (suc i) (v ∷ drop (i + 1) vs)) e
+passes : (n k i : ℕ) (vs : List Verdict) → first_pending n (k + i) vs ≡ reached n k (position_from is_pending i vs)
+passes n k i [] = refl
+passes n k i (Pending ∷ vs) = refl
+passes n k i (Satisfied j ∷ vs) = let more : suc (k + i) ≡ k + (i + 1) = omega arith in ap (λ m. first_pending n m vs) more ∙ passes n k (i + 1) vs
+passes n k i (Breached j ∷ vs) = let more : suc (k + i) ≡ k + (i + 1) = omega arith in ap (λ m. first_pending n m vs) more ∙ passes n k (i + 1) vs
+
+pub next_is : (vs : List Verdict) (n : ℕ) (o : Option ℕ) → o ≡ position_from is_pending 0 (drop n vs) → reached n (suc n) o ≡ next_pending vs n
+unfolding next_pending
+next_is vs n o e =
+    let start : suc n + 0 ≡ suc n = omega arith in
+    ap (reached n (suc n)) e ∙ sym (passes n (suc n) 0 (drop n vs)) ∙ ap (λ k. first_pending n k (drop n vs)) start

@@ -1,5 +1,5 @@
 -- A column from its right end. Assumes nothing.
-use Rattle.std.specs.Prelude.{ℕ, zero, suc, ◌+◌, ◌/◌, ◌%◌, cond, List, [], ◌∷◌, ◌++◌, Some, None, Option, nat_le}
+use Rattle.std.specs.Prelude.{ℕ, zero, suc, ◌+◌, ◌/◌, ◌%◌, if◌then◌else◌, List, [], ◌∷◌, ◌++◌, Some, None, Option, nat_le}
 
 -- the last byte of a number, or a blank
 abbrev pub last_byte : Option ℕ → ℕ
@@ -9,7 +9,7 @@ last_byte (Some n) = 48 + n % 10
 -- what stands in front of the last byte: the other digits, if there are any
 abbrev pub in_front : Option ℕ → Option ℕ
 in_front None = None
-in_front (Some n) = cond (nat_le 10 n) (Some (n / 10)) None
+in_front (Some n) = if nat_le 10 n then Some (n / 10) else None
 
 -- a column of w bytes
 unfoldable pub aligned : ℕ → Option ℕ → List ℕ

@@ -1,5 +1,5 @@
 -- The verdict page, the sheet page, and what writing a page does to a buffer. Assumes nothing.
-use Rattle.std.specs.Prelude.{◌≡◌, ℕ, zero, suc, cond, List, [], ◌∷◌, ◌++◌, length, drop, Some, None, Option, ◌==◌, nat_lt, slice_index_or}
+use Rattle.std.specs.Prelude.{◌≡◌, ℕ, zero, suc, if◌then◌else◌, List, [], ◌∷◌, ◌++◌, length, drop, Some, None, Option, ◌==◌, nat_lt, slice_index_or}
 use Rattle.feed.specs.declared.lines.Line.{Line}
 use Rattle.book.specs.Rules.{Rule}
 use Rattle.duty.specs.Matching.{Bindings}
@@ -65,7 +65,7 @@ next_pending vs n = first_pending n (suc n) (drop n vs)
 
 -- the rule of an entry that follows those of rule n: a pending rule has one entry at level 0, its first
 abbrev pub rule_of : List Verdict → ℕ → Entry → ℕ
-rule_of vs n e = cond (e.level == 0) (next_pending vs n) n
+rule_of vs n e = if e.level == 0 then next_pending vs n else n
 
 -- a row for each entry, where those before them are of rule n
 abbrev pub rows_after : List Verdict → ℕ → List Entry → List ℕ
@@ -82,8 +82,8 @@ ShowsSheet vs es = (rs : List Rule) (log : List Line) → vs ≡ verdicts rs log
 
 -- what writing a page into a buffer answers: its length, or none where the buffer is shorter
 abbrev pub paging : List ℕ → List ℕ → Option ℕ
-paging page buffer = cond (nat_lt (length buffer) (length page)) None (Some (length page))
+paging page buffer = if nat_lt (length buffer) (length page) then None else Some (length page)
 
 -- the buffer then: the page and the bytes beyond it as they were, or every byte as it was where it is shorter
 abbrev pub written : List ℕ → List ℕ → List ℕ
-written page buffer = cond (nat_lt (length buffer) (length page)) buffer (page ++ drop (length page) buffer)
+written page buffer = if nat_lt (length buffer) (length page) then buffer else page ++ drop (length page) buffer

@@ -1,6 +1,6 @@
 // Numbers in columns.
 ghost use Rattle.std.specs.Prelude.{◌≡◌, length};
-ghost use Rattle.pages.specs.Aligned.{last_byte, in_front};
+ghost use Rattle.pages.specs.Aligned.{last_byte, in_front, aligned};
 ghost use Rattle.pages.specs.Columns.{column, cell};
 
 // The last digit, or a blank where there is no number.
@@ -23,15 +23,21 @@ fn in_front(number: Option<u64>) -> Option<u64>
     }
 }
 
-// Fills a column of any width from the right: the digits behind blanks.
+// Fills a column of any width from its last byte on, with blanks in front of the digits.
+fn write_aligned(out: &mut [u8], number: Option<u64>)
+    ensures { out.new ≡ aligned (length out.old) number }
+{
+    if let Some((last, front)) = out.split_last_mut() {
+        *last = last_byte(number);
+        write_aligned(front, in_front(number));
+    }
+}
+
+// The digits behind blanks.
 pub(crate) fn write_column(out: &mut [u8], number: u64)
     ensures { out.new ≡ column (length out.old) number }
 {
-    let mut rest = Some(number);
-    for at in (0..out.len()).rev() {
-        out[at] = last_byte(rest);
-        rest = in_front(rest);
-    }
+    write_aligned(out, Some(number));
 }
 
 // A column that is all blank where there is no number.

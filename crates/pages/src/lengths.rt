@@ -5,8 +5,5 @@ ghost use Rattle.std.specs.Prelude.{◌≡◌, ◌*◌, if◌then◌else◌, Som
 pub(crate) fn page_length(width: usize, rows: usize, room: usize) -> Option<usize>
     ensures { result ≡ (if nat_lt room (width * rows) then None else Some (width * rows)) }
 {
-    match width.checked_mul(rows) {
-        Some(total) if total <= room => Some(total),
-        _ => None,
-    }
+    width.checked_mul(rows).filter(|total| *total <= room)
 }

@@ -1,7 +1,5 @@
 -- The join of a list of results: taken in from the left, and cut in two. Assumes nothing but the laws of the join.
-use Rattle.std.proofs.Common.{◌≡◌, ℕ, ◌+◌, ◌<◌, ◌≤◌, Bool, true, false, cond, leb, List, [], ◌∷◌, ◌++◌, length, get_or, take, drop, Ok, Err, Result, sym, refl, ap, ◌∙◌, arith, drop-drop, take-add, le-leb, leb-true}
-use borrow.Author.Tests.{lt-leb}
-use Rattle.std.proofs.lemmas.List.{drop_more, drop_all}
+use Rattle.std.proofs.Common.{◌≡◌, ℕ, ◌+◌, ◌≤◌, Bool, true, false, cond, leb, List, [], ◌∷◌, ◌++◌, length, take, drop, Ok, Err, Result, sym, refl, ap, ◌∙◌, arith, drop-drop, take-add, le-leb, leb-true}
 use Rattle.roundup.specs.Rounding.{joined_all, round_up, CutInTwo}
 use Rattle.roundup.specs.declared.rounding.OutsideResults.{OutsideResults}
 
@@ -11,10 +9,7 @@ found false u x e = let z : ◌≡◌ {A = ℕ} 0 1 = cc in absurd (omega arith)
 
 -- what a round-up answers, and what an answer says
 module _ {K : Type 0} (join : K → K → K) (neutral : K) (results : List K) (start count : ℕ) where
-  pub outside : length results < start + count → Err (record {}) ≡ round_up join neutral results start count
-  outside h = rw (lt-leb (start + count) (length results) h)
-
-  pub within : (x : K) (xs : List K) → start + count ≤ length results → xs ≡ take count (drop start results) → x ≡ joined_all join neutral xs → Ok x ≡ round_up join neutral results start count
+  within : (x : K) (xs : List K) → start + count ≤ length results → xs ≡ take count (drop start results) → x ≡ joined_all join neutral xs → Ok x ≡ round_up join neutral results start count
   within x xs h found e = rw (le-leb (start + count) (length results) h) (ap Ok (e ∙ ap (joined_all join neutral) found))
 
   answered : (x : K) → round_up join neutral results start count ≡ Ok x → (start + count ≤ length results) × (x ≡ joined_all join neutral (take count (drop start results)))
@@ -30,23 +25,16 @@ module _
     (exchanged : (x y : K) → join x y ≡ join y x)
     (unchanged : (x : K) → join neutral x ≡ x)
   where
-    -- one more result is taken in
-    pub taken_in : (total after x : K) (i : ℕ) (xs : List K) → i < length xs → x ≡ get_or xs i x → after ≡ join total x → join after (joined_all join neutral (drop (i + 1) xs)) ≡ join total (joined_all join neutral (drop i xs))
-    taken_in total after x i xs h e t =
-        ap (λ y. join y (joined_all join neutral (drop (i + 1) xs))) t
-        ∙ regrouped total x (joined_all join neutral (drop (i + 1) xs))
-        ∙ ap (λ y. join total (join y (joined_all join neutral (drop (i + 1) xs)))) e
-        ∙ ap (λ ys. join total (joined_all join neutral ys)) (sym (drop_more xs i x h))
-
-    -- all are taken in
-    pub taken_all : (total : K) (i : ℕ) (xs : List K) → length xs ≤ i → join total (joined_all join neutral (drop i xs)) ≡ total
-    taken_all total i xs h = ap (λ ys. join total (joined_all join neutral ys)) (drop_all i xs h) ∙ exchanged total neutral ∙ unchanged total
-
     joined_append : (xs ys : List K) → joined_all join neutral (xs ++ ys) ≡ join (joined_all join neutral xs) (joined_all join neutral ys)
     joined_append [] ys = sym (unchanged (joined_all join neutral ys))
     joined_append (x ∷ xs) ys = ap (join x) (joined_append xs ys) ∙ sym (regrouped x (joined_all join neutral xs) (joined_all join neutral ys))
 
-    pub joined_cut : (xs : List K) (m n : ℕ) → joined_all join neutral (take (m + n) xs) ≡ join (joined_all join neutral (take m xs)) (joined_all join neutral (take n (drop m xs)))
+    -- one more result is joined
+    pub joined_push : (total x : K) (xs : List K) → total ≡ joined_all join neutral xs → join total x ≡ joined_all join neutral (xs ++ (x ∷ []))
+    joined_push total x xs is =
+        ap (λ y. join y x) is ∙ ap (join (joined_all join neutral xs)) (sym (exchanged x neutral ∙ unchanged x)) ∙ sym (joined_append xs (x ∷ []))
+
+    joined_cut : (xs : List K) (m n : ℕ) → joined_all join neutral (take (m + n) xs) ≡ join (joined_all join neutral (take m xs)) (joined_all join neutral (take n (drop m xs)))
     joined_cut xs m n = ap (joined_all join neutral) (take-add m n xs) ∙ joined_append (take m xs) (take n (drop m xs))
 
     answers-cut : (results : List K) (start m n : ℕ) (x y : K) → round_up join neutral results start m ≡ Ok x → round_up join neutral results (start + m) n ≡ Ok y → round_up join neutral results start (m + n) ≡ Ok (join x y)

@@ -1,5 +1,5 @@
 -- The round-up of a stretch of results. Assumes nothing.
-use Rattle.std.specs.Prelude.{◌≡◌, ℕ, ◌+◌, cond, List, [], ◌∷◌, length, take, drop, Ok, Err, Result, nat_le}
+use Rattle.std.specs.Prelude.{◌≡◌, ℕ, ◌+◌, if◌then◌else◌, List, [], ◌∷◌, length, take, drop, Ok, Err, Result, nat_le}
 use Rattle.roundup.specs.declared.rounding.OutsideResults.{OutsideResults}
 
 -- the number of the refusal
@@ -15,7 +15,7 @@ module _ {K : Type 0} (join : K → K → K) (neutral : K) where
   -- the join of count results from start on, refused where they reach beyond the results
   abbrev pub round_up : List K → (start count : ℕ) → Result K OutsideResults
   round_up results start count =
-      cond (nat_le (start + count) (length results)) (Ok (joined_all (take count (drop start results)))) (Err (record {}))
+      if nat_le (start + count) (length results) then Ok (joined_all (take count (drop start results))) else Err (record {})
 
   -- a stretch cut in two, after m results, and the two round-ups joined
   pub record CutInTwo : Type 0 where

@@ -1,21 +1,23 @@
--- Tallies of verdicts. Assumes nothing.
+-- Counts, and tallies of verdicts. Assumes nothing.
 use Rattle.std.specs.Prelude.{ℕ, ◌+◌}
 use Rattle.std.proofs.Math.Nat.{min-le_right}
 use Rattle.duty.specs.declared.verdicts.Verdict.{Verdict}
 use Rattle.duty.specs.declared.verdicts.Verdict.TheVariants.{Pending, Satisfied, Breached}
 use Rattle.roundup.specs.Counts.{most, counted}
+use Rattle.roundup.specs.declared.counts.Count.{Count}
 use Rattle.roundup.specs.declared.tallies.Tally.{Tally}
 
+-- the count with this number
+unfoldable pub count_of : ℕ → Count
+count_of n = record { number = counted n; within = min-le_right n most }
+
+-- two counts added, up to the largest
+abbrev pub count_sum : Count → Count → Count
+count_sum c d = count_of (c.number + d.number)
+
 -- the tally with these numbers as its counts
-unfoldable pub tally_of : (satisfied breached pending : ℕ) → Tally
-tally_of s b p = record {
-  satisfied = counted s;
-  breached = counted b;
-  pending = counted p;
-  satisfied_most = min-le_right s most;
-  breached_most = min-le_right b most;
-  pending_most = min-le_right p most;
-}
+abbrev pub tally_of : (satisfied breached pending : ℕ) → Tally
+tally_of s b p = record { satisfied = count_of s; breached = count_of b; pending = count_of p }
 
 -- one in the place of the verdict
 abbrev pub tally_of_one : Verdict → Tally
@@ -25,4 +27,4 @@ tally_of_one Pending = tally_of 0 0 1
 
 -- each count added, up to the largest
 abbrev pub sum_of : Tally → Tally → Tally
-sum_of t u = tally_of (t.satisfied + u.satisfied) (t.breached + u.breached) (t.pending + u.pending)
+sum_of t u = tally_of (t.satisfied.number + u.satisfied.number) (t.breached.number + u.breached.number) (t.pending.number + u.pending.number)

@@ -9,7 +9,7 @@ use crate::joining::Joining;
 pub struct OutsideResults;
 
 impl OutsideResults {
-    // The number of the refusal.
+    // The number of the refusal. (Those who are told of refusals know them by numbers.)
     pub fn number(self) -> u8
         ensures { result ≡ outside_number self }
     {
@@ -19,38 +19,27 @@ impl OutsideResults {
 
 // The join of the results in order, the neutral result where there are none.
 fn join_all<K: Joining>(results: &[K]) -> K
-    ensures { result ≡ joined_all K.Joining.join K.Joining.neutral results.now }
+    ensures { result ≡ joined_all K.join K.neutral results.now }
 {
-    let mut total = K::neutral();
-    for result in results {
-        total = total.joined(*result);
-    }
-    total
+    results
+        .iter()
+        .fold(K::neutral(), |total, next| total.joined(*next))
 }
 
 // The `count` results from `start` on, if there are that many.
 fn stretch<K>(results: &[K], start: usize, count: usize) -> Option<&[K]>
     ensures { MatchOption result (length results.now < start + count) (λ s. (start + count ≤ length results.now) × (s.now ≡ take count (drop start results.now))) }
 {
-    if start > results.len() {
-        return None;
-    }
-    let (_, rest) = results.split_at(start);
-    if count > rest.len() {
-        return None;
-    }
-    let (front, _) = rest.split_at(count);
-    Some(front)
+    results.get(start..start.checked_add(count)?)
 }
 
 // The join of the `count` results from `start` on, or a refusal where there are not that many. Cutting a
 // stretch in two and joining the two round-ups gives the same.
 pub fn round_up<K: Joining>(results: &[K], start: usize, count: usize) -> Result<K, OutsideResults>
-    ensures answer { result ≡ round_up K.Joining.join K.Joining.neutral results.now start count }
-    ensures cut { CutInTwo K.Joining.join K.Joining.neutral }
+    ensures answer { result ≡ round_up K.join K.neutral results.now start count }
+    ensures cut { CutInTwo K.join K.neutral }
 {
-    match stretch(results, start, count) {
-        Some(found) => Ok(join_all(found)),
-        None => Err(OutsideResults),
-    }
+    stretch(results, start, count)
+        .map(|found| join_all(found))
+        .ok_or(OutsideResults)
 }

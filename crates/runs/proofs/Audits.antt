@@ -1,7 +1,9 @@
 -- The law from the turns of two auditors that were opened on one book.
-use Rattle.std.proofs.Common.{◌≡◌, ℕ, zero, suc, List, [], ◌∷◌, map, length, take, refl, ap, ◌∙◌, subst}
+use Rattle.std.proofs.Common.{◌≡◌, ℕ, zero, suc, List, [], ◌∷◌, map, Ok, length, take, refl, ap, ◌∙◌, subst}
+use Rattle.feed.specs.declared.faults.Item.{Item}
 use Rattle.book.specs.Rules.{Rule}
 use Rattle.auditor.specs.Holds.{Holds}
+use Rattle.auditor.specs.Opening.{OnText}
 use Rattle.auditor.specs.declared.auditors.Auditor.{Auditor}
 use Rattle.auditor.proofs.Plain.{take_law}
 use Rattle.runs.specs.Calls.{Account, finally}
@@ -15,7 +17,7 @@ use Rattle.runs.specs.declared.pair.Pair.{Pair}
 use Rattle.runs.proofs.Laws.{books_kept, alike, lawful}
 use Rattle.runs.proofs.Sides.{side_after, side-told, first-turns}
 
-pub opened-agree : (e : Ends) (rs : List Rule) (first second : Auditor) → Holds rs [] first → Holds rs [] second → BothAgree (at_first rs e) first e.left second e.right
+opened-agree : (e : Ends) (rs : List Rule) (first second : Auditor) → Holds rs [] first → Holds rs [] second → BothAgree (at_first rs e) (record { auditor = first; lists = e.left }) (record { auditor = second; lists = e.right })
 opened-agree e rs first second h k = record { first = record { holds = h; lists = refl }; second = record { holds = k; lists = refl } }
 
 map-take : {A B : Type 0} (f : A → B) (n : ℕ) (xs : List A) → map f (take n xs) ≡ take n (map f xs)
@@ -31,7 +33,7 @@ own-turns x b k ts =
 held_as : (rs : List Rule) (s s' : Account) (a : Auditor) → s ≡ s' → s'.book ≡ rs → Holds s.book s.log a → Holds rs s'.log a
 held_as rs s s' a e f h = subst (λ x. Holds x s'.log a) f (subst (λ (x : Account). Holds x.book x.log a) e h)
 
-pub the_law : (e : Ends) (rs : List Rule) (p : Pair) → TurnsMade (at_first rs e) e.turns e.turns' p.first e.left' p.second e.right' e.saw e.saw' → Law e rs p
+the_law : (e : Ends) (rs : List Rule) (p : Pair) → TurnsMade (at_first rs e) e.turns e.turns' (record { auditor = p.first; lists = e.left' }) (record { auditor = p.second; lists = e.right' }) e.saw e.saw' → Law e rs p
 the_law e rs p m = record {
   lawful = each;
   alike = alike rs (run_at e p First) (run_at e p Second) first second;
@@ -62,3 +64,14 @@ the_law e rs p m = record {
     owns : (k : ℕ) (x : Side) → side x (after_turns (at_first rs e) (take k e.turns)) ≡ after rs (length (turns_of x (take k e.turns))) (run_at e p x)
     owns k First = own-turns First (at_first rs e) k e.turns
     owns k Second = own-turns Second (at_first rs e) k e.turns
+
+-- the same where both were opened on the text, and ws and vs wait then in their feeds
+pub audited : (e : Ends) (N : Type 0) (text : List ℕ) (first second : Auditor) (p : Pair) (ws vs : List (List Item)) → OnText (λ rs a. Holds rs [] a) (Unit {0}) text (Ok first) → OnText (λ rs a. Holds rs [] a) (Unit {0}) text (Ok second) → ws ≡ e.left' → vs ≡ e.right' → ((b : Both) → BothAgree b (record { auditor = first; lists = e.left }) (record { auditor = second; lists = e.right }) → TurnsMade b e.turns e.turns' (record { auditor = p.first; lists = ws }) (record { auditor = p.second; lists = vs }) e.saw e.saw') → OnText (Law e) N text (Ok p)
+audited e N text first second p ws vs one two left right made =
+    let all : (rs : List Rule) → Holds rs [] first → Holds rs [] second → Law e rs p = λ rs h k.
+    the_law e rs p (subst (λ l. TurnsMade (at_first rs e) e.turns e.turns' (record { auditor = p.first; lists = l }) (record { auditor = p.second; lists = e.right' }) e.saw e.saw') left (subst (λ l. TurnsMade (at_first rs e) e.turns e.turns' (record { auditor = p.first; lists = ws }) (record { auditor = p.second; lists = l }) e.saw e.saw') right (made (at_first rs e) (opened-agree e rs first second h k)))) in
+    record {
+      told = (one.told.0, one.told.1, all one.told.0 one.told.2 (two.book one.told.0 one.told.1));
+      book = λ rs accepted. all rs (one.book rs accepted) (two.book rs accepted);
+      refusal = one.refusal;
+    }

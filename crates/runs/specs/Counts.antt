@@ -1,5 +1,5 @@
 -- What an observer that counts turns keeps of the moments that it was shown. Assumes nothing.
-use Rattle.std.specs.Prelude.{◌≡◌, ℕ, suc, min, cond, List, [], ◌∷◌}
+use Rattle.std.specs.Prelude.{◌≡◌, ℕ, suc, min, if◌then◌else◌, List, [], ◌∷◌}
 use Rattle.runs.specs.Turns.{same_side, Moment}
 use Rattle.runs.specs.declared.calls.Side.{Side}
 use Rattle.runs.specs.declared.calls.Side.TheVariants.{First, Second}
@@ -7,7 +7,7 @@ use Rattle.runs.specs.declared.calls.Side.TheVariants.{First, Second}
 -- how many of the moments came after a turn of this side
 abbrev pub moments_of : Side → List Moment → ℕ
 moments_of x [] = 0
-moments_of x (m ∷ ms) = cond (same_side x m.whose) (suc (moments_of x ms)) (moments_of x ms)
+moments_of x (m ∷ ms) = if same_side x m.whose then suc (moments_of x ms) else moments_of x ms
 
 -- the largest count
 abbrev pub most_counted : ℕ

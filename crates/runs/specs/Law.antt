@@ -1,5 +1,5 @@
 -- The law over runs: two auditors that were opened on one book, and the turns that were made at them. Assumes nothing.
-use Rattle.std.specs.Prelude.{◌≡◌, ℕ, suc, ◌*◌, ◌<◌, cond, ◌⊎◌, List, [], ◌∷◌, ◌++◌, map, length, take, drop, Some, None, Ok, ◌==◌, slice_index_or}
+use Rattle.std.specs.Prelude.{◌≡◌, ℕ, suc, ◌*◌, ◌<◌, if◌then◌else◌, ◌⊎◌, List, [], ◌∷◌, ◌++◌, map, length, take, drop, Some, None, Ok, ◌==◌, slice_index_or}
 use Rattle.feed.specs.declared.faults.Item.{Item}
 use Rattle.feed.specs.declared.faults.Item.TheVariants.{Sound}
 use Rattle.feed.specs.declared.lines.Line.{Line}
@@ -101,8 +101,8 @@ pub record Alike (rs : List Rule) (r r' : Run) : Type 0 where
 
 -- what a call draws from feed i: the lines that it takes to the log's end, or the item that it skips
 abbrev pub drawn : ℕ → Account → Call → List Item
-drawn i s (Take j c) = cond (j == i) (map Sound (takes_at s j c).lines) []
-drawn i s (Skip j) = cond (j == i) (take 1 (waiting_at s.lists j)) []
+drawn i s (Take j c) = if j == i then map Sound (takes_at s j c).lines else []
+drawn i s (Skip j) = if j == i then take 1 (waiting_at s.lists j) else []
 drawn i s VerdictPage = []
 drawn i s SheetPage = []
 

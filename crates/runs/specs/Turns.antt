@@ -1,5 +1,5 @@
 -- Turns: the calls at two auditors, in the order in which they are made, and what is seen after each. Assumes nothing.
-use Rattle.std.specs.Prelude.{ℕ, Bool, true, false, cond, List, [], ◌∷◌, vec_items}
+use Rattle.std.specs.Prelude.{ℕ, Bool, true, false, if◌then◌else◌, List, [], ◌∷◌, vec_items}
 use Rattle.feed.specs.declared.faults.Item.{Item}
 use Rattle.pages.specs.Pages.{verdict_page, sheet_page}
 use Rattle.auditor.specs.Showing.{verdicts_shown, sheet_shown}
@@ -19,7 +19,7 @@ same_side Second Second = true
 -- the turns of one side, in their order
 abbrev pub turns_of : Side → List Turn → List Turn
 turns_of x [] = []
-turns_of x (t ∷ ts) = cond (same_side x t.side) (t ∷ turns_of x ts) (turns_of x ts)
+turns_of x (t ∷ ts) = if same_side x t.side then t ∷ turns_of x ts else turns_of x ts
 
 -- a turn as the call that is asked, and as what is said to it
 abbrev pub asked : Turn → Asked

@@ -6,7 +6,7 @@ use auditor::answers::{Refusal, Taken};
 use feed::faults::FaultNumbers;
 
 // A call on an auditor and its feeds, which are numbered from 0.
-#[derive(Clone, Copy)]
+#[derive(Clone, Copy, Debug, PartialEq, Eq)]
 pub enum Call {
     Take { feed: usize, count: u32 },
     Skip { feed: usize },
@@ -46,8 +46,7 @@ impl Answer {
         match self {
             Answer::Took(taken) => taken.lines as usize,
             Answer::Skipped(_) => 0,
-            Answer::Paged(Ok(length)) => length,
-            Answer::Paged(Err(_)) => 0,
+            Answer::Paged(length) => length.unwrap_or(0),
         }
     }
 
@@ -55,13 +54,9 @@ impl Answer {
     pub fn numbers(self) -> AnswerNumbers
         ensures { result ≡ answer_numbers self }
     {
-        let refusal = match self.refusal() {
-            Some(refusal) => Some(refusal.numbers()),
-            None => None,
-        };
         AnswerNumbers {
             count: self.count(),
-            refusal,
+            refusal: self.refusal().map(|refusal| refusal.numbers()),
         }
     }
 }

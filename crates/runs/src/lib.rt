@@ -6,5 +6,6 @@ pub mod counts;
 pub mod observers;
 pub mod pair;
 pub mod pairs;
+mod posts;
 pub mod racks;
 mod turns;

@@ -11,7 +11,7 @@ pub trait Observer {
     // `saw s ms`: an observer in the state s may be one that was shown just the moments ms, in their order.
     ghost saw: { Self → List Moment → Type 0 };
 
-    // Shown after a call at one side.
+    // Shown after a call at one side. (Auditors and feeds stand apart here: the ones are only read, the others looked at.)
     fn note<F: Feeds, G: Feeds>(
         &mut self,
         side: Side,
@@ -20,9 +20,9 @@ pub trait Observer {
         second: &Auditor,
         right: &mut G,
     )
-        ensures seen { (ms : List Moment) → saw self.old ms → saw self.new (ms ++ (moment side (shown_by first.now (F.Feeds.lists left.old)) (shown_by second.now (G.Feeds.lists right.old)) ∷ [])) }
-        ensures left { F.Feeds.lists left.new ≡ F.Feeds.lists left.old }
-        ensures right { G.Feeds.lists right.new ≡ G.Feeds.lists right.old };
+        ensures seen { (ms : List Moment) → saw self.old ms → saw self.new (ms ++ (moment side (shown_by first.now (F.lists left.old)) (shown_by second.now (G.lists right.old)) ∷ [])) }
+        ensures left { F.lists left.new ≡ F.lists left.old }
+        ensures right { G.lists right.new ≡ G.lists right.old };
 }
 
 // An observer that keeps nothing of what it is shown.

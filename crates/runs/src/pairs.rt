@@ -7,6 +7,7 @@ ghost use Rattle.runs.specs.Law.{Ends, Law};
 use crate::calls::Turn;
 use crate::observers::Observer;
 use crate::pair::Pair;
+use crate::posts::Post;
 use crate::racks::Feeds;
 use crate::turns::make_turns;
 use auditor::auditors::Auditor;
@@ -17,13 +18,9 @@ use std::alloc::Global;
 fn opened(heap: Global, text: &[u8]) -> Result<Auditor, Refusal>
     ensures { OnText (λ rs a. Holds rs [] a) (Unit {0}) text.now result }
 {
-    let Ok(mut auditor) = Auditor::new(heap) else {
-        return Err(Refusal::NoMemory);
-    };
-    match auditor.open(heap, text) {
-        Ok(()) => Ok(auditor),
-        Err(refusal) => Err(refusal),
-    }
+    let mut auditor = Auditor::new(heap)?;
+    auditor.open(heap, text)?;
+    Ok(auditor)
 }
 
 // Opens two auditors on the book that the text is, and makes the turns in their order, each at the auditor and the
@@ -39,20 +36,37 @@ pub fn audit_both<F: Feeds, G: Feeds, O: Observer>(
 ) -> Result<Pair, Refusal>
     ensures { OnText
         (Law (record {
-          left = F.Feeds.lists left.old;
-          left' = F.Feeds.lists left.new;
-          right = G.Feeds.lists right.old;
-          right' = G.Feeds.lists right.new;
+          left = F.lists left.old;
+          left' = F.lists left.new;
+          right = G.lists right.old;
+          right' = G.lists right.new;
           turns = turns.old;
           turns' = turns.new;
-          saw = O.Observer.saw observer.old;
-          saw' = O.Observer.saw observer.new;
+          saw = O.saw observer.old;
+          saw' = O.saw observer.new;
         }))
         ((left.new ≡ left.old) × (right.new ≡ right.old) × (turns.new ≡ turns.old) × (observer.new ≡ observer.old))
         text.now result }
 {
-    let mut first = opened(heap, text)?;
-    let mut second = opened(heap, text)?;
-    make_turns(&mut first, left, &mut second, right, turns, observer);
+    let first = opened(heap, text)?;
+    let second = opened(heap, text)?;
+    let mut first = Post {
+        auditor: first,
+        feeds: left,
+    };
+    let mut second = Post {
+        auditor: second,
+        feeds: right,
+    };
+    make_turns(&mut first, &mut second, turns, observer);
+    // (Each feed is named, so that it is known to be the caller's again.)
+    let Post {
+        auditor: first,
+        feeds: _left,
+    } = first;
+    let Post {
+        auditor: second,
+        feeds: _right,
+    } = second;
     Ok(Pair { first, second })
 }

@@ -75,7 +75,7 @@ pub struct Rack<F, R> {
 }
 
 impl<F: Feed, R: Feeds> Feeds for Rack<F, R> {
-    ghost lists = { λ s. F.Feed.waiting s.first ∷ R.Feeds.lists s.rest };
+    ghost lists = { λ s. F.waiting s.first ∷ R.lists s.rest };
 
     fn look_at(&mut self, i: usize) -> Option<Item> {
         if i == 0 {

@@ -35,15 +35,8 @@ impl Auditor {
     pub fn open(&mut self, heap: Global, text: &[u8]) -> Result<(), Refusal>
         ensures { Opens text.now result self.old self.new }
     {
-        match read_book(heap, text) {
-            Err(refusal) => Err(refusal),
-            Ok(book) => match Auditor::begin(heap, book) {
-                Err(_) => Err(Refusal::NoMemory),
-                Ok(auditor) => {
-                    *self = auditor;
-                    Ok(())
-                }
-            },
-        }
+        let book = read_book(heap, text)?;
+        *self = Auditor::begin(heap, book)?;
+        Ok(())
     }
 }

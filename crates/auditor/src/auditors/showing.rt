@@ -6,23 +6,13 @@ ghost use Rattle.duty.specs.Standings.{verdicts_of};
 ghost use Rattle.duty.specs.Verdicts.{verdicts};
 ghost use Rattle.pages.specs.Pages.{verdict_page, sheet_page, written};
 ghost use Rattle.auditor.specs.Holds.{Holds};
-ghost use Rattle.auditor.specs.Showing.{verdicts_shown, sheet_shown, page_answer, or_short};
+ghost use Rattle.auditor.specs.Showing.{verdicts_shown, sheet_shown, page_answer};
 
 use crate::answers::Refusal;
 use crate::auditors::Auditor;
 use duty::verdicts::Verdict;
 use pages::sheets::write_sheet;
 use pages::verdicts::write_verdicts;
-
-// A page's length, or that the buffer was shorter.
-fn answered(length: Option<usize>) -> Result<usize, Refusal>
-    ensures { result ≡ or_short length }
-{
-    match length {
-        Some(length) => Ok(length),
-        None => Err(Refusal::ShortBuffer),
-    }
-}
 
 impl Auditor {
     // The verdicts of the rules on the log, in the order of the book.
@@ -40,7 +30,7 @@ impl Auditor {
         ensures bytes { out.new ≡ written (verdicts_shown self.now) out.old }
         ensures page { (rs : List Rule) (log : List Line) → Holds rs log self.now → verdicts_shown self.now ≡ verdict_page rs log }
     {
-        answered(write_verdicts(self.standing.verdicts(), out))
+        write_verdicts(self.standing.verdicts(), out).ok_or(Refusal::ShortBuffer)
     }
 
     // The same with the sheet page.
@@ -49,7 +39,7 @@ impl Auditor {
         ensures bytes { out.new ≡ written (sheet_shown self.now) out.old }
         ensures page { (rs : List Rule) (log : List Line) → Holds rs log self.now → sheet_shown self.now ≡ sheet_page rs log }
     {
-        let verdicts = self.standing.verdicts();
-        answered(write_sheet(verdicts, self.standing.sheet(), out))
+        let standing = &self.standing;
+        write_sheet(standing.verdicts(), standing.sheet(), out).ok_or(Refusal::ShortBuffer)
     }
 }

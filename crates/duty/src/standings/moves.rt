@@ -5,9 +5,10 @@ ghost use Rattle.duty.specs.Sheet.{Fits};
 ghost use Rattle.duty.specs.Judging.{JudgesAll};
 ghost use Rattle.duty.specs.Standings.{book_rules, Opened, Stands, Taken, Kept, rules_of, verdicts_of, sheet_of};
 
-use crate::drafts::{Draft, PLACES};
+use crate::drafts::PLACES;
 use crate::entries::Entry;
-use crate::judging::{judge_concerned_rules, open_rules};
+use crate::findings::Findings;
+use crate::judging::{judge_rules, open_rules};
 use crate::kinds::Kinds;
 use crate::standings::{SheetFull, Standing, State};
 use crate::verdicts::Verdict;
@@ -16,23 +17,15 @@ use feed::lines::Line;
 use std::alloc::{AllocError, Global};
 
 impl State {
-    // Writes the verdicts and the sheet after one more line.
-    fn judge(&self, line: &Line, number: u32, next: &mut Vec<Verdict>, draft: &mut Draft)
-        requires { vec_len next.old + vec_len self.now.book.rules ≤ vec_capacity next.old }
-        ensures len { vec_len next.new ≡ vec_len next.old + vec_len self.now.book.rules }
-        ensures capacity { vec_capacity next.new ≡ vec_capacity next.old }
-        ensures all { JudgesAll (book_rules self.now.book) self.now.verdicts.items self.now.sheet.entries.items line.now number next.old.items draft.old next.new.items draft.new }
+    // Writes what is found after one more line.
+    fn judge(&self, line: &Line, number: u32, next: &mut Findings)
+        requires { vec_len next.old.verdicts + vec_len self.now.book.rules ≤ vec_capacity next.old.verdicts }
+        ensures len { vec_len next.new.verdicts ≡ vec_len next.old.verdicts + vec_len self.now.book.rules }
+        ensures capacity { vec_capacity next.new.verdicts ≡ vec_capacity next.old.verdicts }
+        ensures all { JudgesAll (book_rules self.now.book) self.now.findings.verdicts.items self.now.findings.sheet.entries.items line.now number next.old.verdicts.items next.old.sheet next.new.verdicts.items next.new.sheet }
     {
-        judge_concerned_rules(
-            self.book.rules(),
-            &self.each,
-            &self.verdicts,
-            &self.sheet.entries,
-            line,
-            number,
-            next,
-            draft,
-        );
+        let rules = self.book.rules();
+        judge_rules(rules, &self.each, &self.findings, line, number, next);
     }
 }
 
@@ -44,19 +37,16 @@ impl Standing {
         let rules = book.rules();
         let kinds = Kinds::of_rules(rules);
         let each = Kinds::of_each(heap, rules)?;
-        let mut verdicts = Vec::with_capacity(heap, rules.len())?;
-        let next = Vec::with_capacity(heap, rules.len())?;
-        let mut sheet = Draft::new(heap)?;
-        let draft = Draft::new(heap)?;
-        open_rules(rules, &mut verdicts, &mut sheet);
+        let mut findings = Findings::new(heap, rules.len())?;
+        let next = Findings::new(heap, rules.len())?;
+        open_rules(rules, &mut findings);
         let state = State {
             book,
             kinds,
             each,
-            verdicts,
-            sheet,
+            findings,
         };
-        Ok(Standing { state, next, draft })
+        Ok(Standing { state, next })
     }
 
     // One more line, with its number in the log; or nothing changes, where the sheet after the whole line would
@@ -70,14 +60,11 @@ impl Standing {
             return Ok(());
         }
         self.next.clear();
-        self.draft.clear();
-        self.state
-            .judge(line, number, &mut self.next, &mut self.draft);
-        if self.draft.count > PLACES {
+        self.state.judge(line, number, &mut self.next);
+        if self.next.sheet.count() > PLACES {
             return Err(SheetFull);
         }
-        std::mem::swap(&mut self.state.verdicts, &mut self.next);
-        std::mem::swap(&mut self.state.sheet, &mut self.draft);
+        std::mem::swap(&mut self.state.findings, &mut self.next);
         Ok(())
     }
 
@@ -86,7 +73,7 @@ impl Standing {
         ensures value { result.now ≡ verdicts_of self.now }
         ensures len { length result.now ≡ length (rules_of self.now) }
     {
-        &self.state.verdicts
+        &self.state.findings.verdicts
     }
 
     // The open sheet.
@@ -94,6 +81,6 @@ impl Standing {
         ensures value { result.now ≡ sheet_of self.now }
         ensures fits { Fits result.now }
     {
-        &self.state.sheet.entries
+        &self.state.findings.sheet.entries
     }
 }

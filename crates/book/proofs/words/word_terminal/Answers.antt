@@ -1,51 +1,24 @@
-use Rattle.std.proofs.Common.{sym}
-use Rattle.book.specs.Text.{word_of}
+use Rattle.std.proofs.Common.{◌≡◌, Bool, true, false, if◌then◌else◌, List, [], ◌∷◌, ℕ, map, Bor, Option, Some, refl, ap, ◌∙◌}
+use Rattle.std.specs.Option.{option_map, ok_or}
+use Rattle.std.specs.List.{find}
+use Rattle.std.specs.Map.{lookup}
+use Rattle.std.specs.Str.{bytes_eq}
+use Rattle.book.specs.declared.refusals.Reason.TheVariants.{NoToken}
+use Rattle.book.specs.declared.terminals.Terminal.{Terminal}
+use Rattle.book.specs.Text.{words, word_of}
 use Rattle.book.proofs.words.word_terminal.Goals as goal
 
-pub returns-then-is_word : goal.returns-then-is_word
-unfolding word_of
-returns-then-is_word c = simp (sym c.if-is_word.ensures)
+step : (b : Bool) (e : Bor (List ℕ) × Terminal) (o : Option (Bor (List ℕ) × Terminal)) (r : Option Terminal) → option_map (λ e. e.1) o ≡ r → option_map (λ e. e.1) (if b then Some e else o) ≡ (if b then Some e.1 else r)
+step true e o r h = refl
+step false e o r h = h
 
-pub returns-then-is_word-2 : goal.returns-then-is_word-2
-unfolding word_of
-returns-then-is_word-2 c = simp (sym c.if-is_word.ensures, sym c.if-is_word-2.ensures)
-
-pub returns-then-is_word-3 : goal.returns-then-is_word-3
-unfolding word_of
-returns-then-is_word-3 c = simp (sym c.if-is_word.ensures, sym c.if-is_word-2.ensures, sym c.if-is_word-3.ensures)
-
-pub returns-then-is_word-4 : goal.returns-then-is_word-4
-unfolding word_of
-returns-then-is_word-4 c = simp (sym c.if-is_word.ensures, sym c.if-is_word-2.ensures, sym c.if-is_word-3.ensures, sym c.if-is_word-4.ensures)
-
-pub returns-then-is_word-5 : goal.returns-then-is_word-5
-unfolding word_of
-returns-then-is_word-5 c = simp (sym c.if-is_word.ensures, sym c.if-is_word-2.ensures, sym c.if-is_word-3.ensures, sym c.if-is_word-4.ensures, sym c.if-is_word-5.ensures)
-
-pub returns-then-is_word-6 : goal.returns-then-is_word-6
-unfolding word_of
-returns-then-is_word-6 c = simp (sym c.if-is_word.ensures, sym c.if-is_word-2.ensures, sym c.if-is_word-3.ensures, sym c.if-is_word-4.ensures, sym c.if-is_word-5.ensures, sym c.if-is_word-6.ensures)
-
-pub returns-then-is_word-7 : goal.returns-then-is_word-7
-unfolding word_of
-returns-then-is_word-7 c = simp (sym c.if-is_word.ensures, sym c.if-is_word-2.ensures, sym c.if-is_word-3.ensures, sym c.if-is_word-4.ensures, sym c.if-is_word-5.ensures, sym c.if-is_word-6.ensures, sym c.if-is_word-7.ensures)
-
-pub returns-then-is_word-8 : goal.returns-then-is_word-8
-unfolding word_of
-returns-then-is_word-8 c = simp (sym c.if-is_word.ensures, sym c.if-is_word-2.ensures, sym c.if-is_word-3.ensures, sym c.if-is_word-4.ensures, sym c.if-is_word-5.ensures, sym c.if-is_word-6.ensures, sym c.if-is_word-7.ensures, sym c.if-is_word-8.ensures)
-
-pub returns-then-is_word-9 : goal.returns-then-is_word-9
-unfolding word_of
-returns-then-is_word-9 c = simp (sym c.if-is_word.ensures, sym c.if-is_word-2.ensures, sym c.if-is_word-3.ensures, sym c.if-is_word-4.ensures, sym c.if-is_word-5.ensures, sym c.if-is_word-6.ensures, sym c.if-is_word-7.ensures, sym c.if-is_word-8.ensures, sym c.if-is_word-9.ensures)
-
-pub returns-then-is_word-10 : goal.returns-then-is_word-10
-unfolding word_of
-returns-then-is_word-10 c = simp (sym c.if-is_word.ensures, sym c.if-is_word-2.ensures, sym c.if-is_word-3.ensures, sym c.if-is_word-4.ensures, sym c.if-is_word-5.ensures, sym c.if-is_word-6.ensures, sym c.if-is_word-7.ensures, sym c.if-is_word-8.ensures, sym c.if-is_word-9.ensures, sym c.if-is_word-10.ensures)
-
-pub returns-then-is_word-11 : goal.returns-then-is_word-11
-unfolding word_of
-returns-then-is_word-11 c = simp (sym c.if-is_word.ensures, sym c.if-is_word-2.ensures, sym c.if-is_word-3.ensures, sym c.if-is_word-4.ensures, sym c.if-is_word-5.ensures, sym c.if-is_word-6.ensures, sym c.if-is_word-7.ensures, sym c.if-is_word-8.ensures, sym c.if-is_word-9.ensures, sym c.if-is_word-10.ensures, sym c.if-is_word-11.ensures)
+-- the first entry with a key is what a look-up finds
+found : (w : List ℕ) (es : List (Bor (List ℕ) × Terminal)) → option_map (λ e. e.1) (find (λ e. bytes_eq e.0.now w) es) ≡ lookup (λ k. bytes_eq k w) (map (λ e. (e.0.now, e.1)) es)
+found w [] = refl
+found w (e ∷ es) = step (bytes_eq e.0.now w) e _ _ (found w es)
 
 pub returns : goal.returns
 unfolding word_of
-returns c = simp (sym c.if-is_word.ensures, sym c.if-is_word-2.ensures, sym c.if-is_word-3.ensures, sym c.if-is_word-4.ensures, sym c.if-is_word-5.ensures, sym c.if-is_word-6.ensures, sym c.if-is_word-7.ensures, sym c.if-is_word-8.ensures, sym c.if-is_word-9.ensures, sym c.if-is_word-10.ensures, sym c.if-is_word-11.ensures) c.field_terminal.ensures
+returns c =
+    let is : c.look_up.result ≡ lookup (λ k. bytes_eq k c.args.w.now) words = simp found at c.look_up.ensures in
+    c.ok_or.ensures.value ∙ ap (λ o. ok_or o NoToken) is

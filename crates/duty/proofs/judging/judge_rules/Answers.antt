@@ -1,38 +1,41 @@
-use Rattle.std.proofs.Common.{◌≡◌, ◌≤◌, length, vec_items, sym, refl, ap, ◌∙◌, subst, arith, length-drop}
-use Rattle.std.proofs.lemmas.List.{take_rest}
-use Rattle.book.specs.Sizes.{nodes, depth, rule_number}
-use Rattle.book.specs.Trees.{pure_rule}
-use Rattle.duty.proofs.Books.{limited_at, rolls_start, rolls_on, rolls_end}
+use Rattle.std.proofs.Common.{◌≡◌, [], refl, length, vec_items, inl, inr, sym, ap, ◌∙◌, subst, arith}
+use Rattle.std.proofs.lemmas.List.{nil_from_length}
+use Rattle.book.specs.Trees.{pure_rules}
+use Rattle.duty.specs.Judging.{JudgesAll}
+use Rattle.duty.proofs.Books.{judges_more, judges_none, within_rest, covers_rest}
+use Rattle.duty.proofs.Sets.{each_long}
 use Rattle.duty.proofs.judging.judge_rules.Goals as goal
 
-pub judge_rule-judged-requires : goal.judge_rule-judged-requires
-judge_rule-judged-requires c =
-    let r = c.index-rules-i.result in
-    let h = limited_at c.args.rules.now c.loop-i.i r c.loop-i-test.true c.requires.size c.requires.nesting c.requires.numbers in
-    let back = sym c.index-rules-i.is in
+pub loop-rule-preserved : goal.loop-rule-preserved
+loop-rule-preserved c =
+    let steps = c.in-Some.ensures.steps in
+    let before = c.loop-rule.rule-iterator in
+    let after = c.next.new.self in
     record {
-      size = subst (λ x. nodes (pure_rule x) ≤ 64) back h.0;
-      nesting = subst (λ x. depth (pure_rule x) ≤ 8) back h.1;
-      numbers = subst (λ x. rule_number (pure_rule x) ≤ 9999999) back h.2;
+      within = within_rest before.a.a.rest.now after.a.a.rest.now c.in-Some.rule.now steps.0.0 c.loop-rule.invariant.within;
+      covered = covers_rest before.a.a.rest.now after.a.a.rest.now c.in-Some.rule.now before.a.b.rest.now after.a.b.rest.now c.in-Some.kinds.now steps.0.0 steps.0.1 c.loop-rule.invariant.covered;
+      judged = omega (arith, ap length steps.0.0, ap length steps.1, c.loop-rule.invariant.judged);
+      len = omega (arith, ap length steps.0.0, c.push_reserved.ensures.len, c.loop-rule.invariant.len);
+      capacity = c.push_reserved.ensures.capacity ∙ c.loop-rule.invariant.capacity;
+      all = λ vs d h.
+          c.loop-rule.invariant.all vs d
+          (judges_more before.a.a.rest.now after.a.a.rest.now c.in-Some.rule.now before.b.rest.now after.b.rest.now c.in-Some.verdict.now c.loop-rule.rest.now c.judge_rule-judged.result.rest.now c.args.line.now c.args.number (vec_items c.loop-rule.next.verdicts) (vec_items c.push_reserved.new.self) vs
+          c.loop-rule.next.sheet c.judge_rule-judged.new.draft d c.judge_rule-judged.result steps.0.0 steps.1 c.judge_rule-judged.ensures refl c.push_reserved.ensures.items h);
     }
 
-pub loop-i-init : goal.loop-i-init
-loop-i-init c = (omega arith, omega arith, refl, rolls_start c.args.rules.now c.args.verdicts.now c.args.sheet.now c.args.line.now c.args.number (vec_items c.args.next.now) c.args.draft.now)
+none_left : (c : goal.In-None) → length c.loop-rule.rule-iterator.a.a.rest.now ≡ 0
+none_left c =
+    let each = each_long c.loop-rule.rule-iterator.a.b.rest.now c.loop-rule.rule-iterator.a.a.rest.now c.loop-rule.invariant.covered in
+    elim c.in-None.ensures.steps [
+      | inl z ↦ elim z.1 [ inl y ↦ y.1.0 | inr y ↦ omega (arith, y.1.0) ]
+      | inr y ↦ omega (arith, y.1.0, c.loop-rule.invariant.judged)
+    ]
 
-pub loop-i-preserved : goal.loop-i-preserved
-loop-i-preserved c = (
-  omega (arith, c.judge_rule-judged.ensures.within, ap length (take_rest c.args.sheet.now c.loop-i.at), length-drop c.loop-i.at c.args.sheet.now, c.loop-i.invariant.0),
-  omega (arith, c.push_reserved.ensures.len, c.loop-i.invariant.1),
-  c.push_reserved.ensures.capacity ∙ c.loop-i.invariant.2,
-  rolls_on c.args.rules.now c.args.verdicts.now c.loop-i.i c.loop-i.at c.args.sheet.now c.args.line.now c.args.number (vec_items c.args.next.now) (vec_items c.loop-i.next) (vec_items c.push_reserved.new.self) c.args.draft.now c.loop-i.draft c.judge_rule-judged.new.draft c.index-rules-i.result _ c.judge_rule-judged.result
-      c.loop-i-test.true c.index-rules-i.is c.loop-i.invariant.3 c.judge_rule-judged.ensures.judged c.push_reserved.ensures.items,
-)
+pub returns-clause-len : goal.returns-clause-len
+returns-clause-len c = omega (arith, none_left c, c.loop-rule.invariant.len)
 
-pub returns : goal.returns
-returns c =
-    let e : c.loop-i.i ≡ length c.args.rules.now = omega (arith, c.loop-i-test.false, c.loop-i.auto.i-end) in
-    record {
-      len = omega (arith, c.loop-i.invariant.1);
-      capacity = c.loop-i.invariant.2;
-      all = rolls_end c.args.rules.now c.args.verdicts.now c.loop-i.i c.loop-i.at c.args.sheet.now c.args.line.now c.args.number (vec_items c.args.next.now) (vec_items c.loop-i.next) c.args.draft.now c.loop-i.draft c.loop-i-test.false c.loop-i.invariant.3;
-    }
+pub returns-clause-all : goal.returns-clause-all
+returns-clause-all c =
+    let e : c.loop-rule.rule-iterator.a.a.rest.now ≡ [] = nil_from_length _ (none_left c) in
+    c.loop-rule.invariant.all (vec_items c.loop-rule.next.verdicts) c.loop-rule.next.sheet
+    (subst (λ x. JudgesAll (pure_rules x) c.loop-rule.rule-iterator.b.rest.now c.loop-rule.rest.now c.args.line.now c.args.number (vec_items c.loop-rule.next.verdicts) c.loop-rule.next.sheet (vec_items c.loop-rule.next.verdicts) c.loop-rule.next.sheet) (sym e) (judges_none _ _ _ _ _ _))

@@ -2,24 +2,21 @@ use Rattle.std.proofs.Common.{vec_items, refl, ◌∙◌, arith}
 use Rattle.duty.proofs.Books.{opens_start, opens_on, opens_end, placed_at}
 use Rattle.duty.proofs.judging.open_rules.Goals as goal
 
-pub loop-i-init : goal.loop-i-init
-loop-i-init c = (omega arith, refl, opens_start (vec_items c.args.verdicts.now) c.args.draft.now)
+pub loop-rule-init : goal.loop-rule-init
+loop-rule-init c = record { len = omega arith; capacity = refl; opened = opens_start (vec_items c.args.found.now.verdicts) c.args.found.now.sheet }
 
 pub open_rule-requires : goal.open_rule-requires
-open_rule-requires c = placed_at c.args.rules.now c.loop-i.i c.index-rules-i.result c.loop-i-test.true c.index-rules-i.is c.requires.size c.requires.nesting c.requires.numbers
+open_rule-requires c = placed_at c.args.rules.now c.loop-rule.rule-index c.rule-item.result c.loop-rule-test.true c.rule-item.is c.requires.within
 
-pub loop-i-preserved : goal.loop-i-preserved
-loop-i-preserved c = (
-  omega (arith, c.push_reserved.ensures.len, c.loop-i.invariant.0),
-  c.push_reserved.ensures.capacity ∙ c.loop-i.invariant.1,
-  opens_on c.args.rules.now c.loop-i.i (vec_items c.args.verdicts.now) (vec_items c.loop-i.verdicts) (vec_items c.push_reserved.new.self) c.args.draft.now c.loop-i.draft c.open_rule.new.draft c.index-rules-i.result
-      c.loop-i-test.true c.index-rules-i.is c.loop-i.invariant.2 c.open_rule.ensures c.push_reserved.ensures.items,
-)
-
-pub returns : goal.returns
-returns c =
+pub loop-rule-preserved : goal.loop-rule-preserved
+loop-rule-preserved c =
     record {
-      len = omega (arith, c.loop-i.invariant.0, c.loop-i-test.false, c.loop-i.auto.i-end);
-      capacity = c.loop-i.invariant.1;
-      all = opens_end c.args.rules.now c.loop-i.i (vec_items c.args.verdicts.now) (vec_items c.loop-i.verdicts) c.args.draft.now c.loop-i.draft c.loop-i-test.false c.loop-i.invariant.2;
+      len = omega (arith, c.push_reserved.ensures.len, c.loop-rule.invariant.len);
+      capacity = c.push_reserved.ensures.capacity ∙ c.loop-rule.invariant.capacity;
+      opened =
+          opens_on c.args.rules.now c.loop-rule.rule-index (vec_items c.args.found.now.verdicts) (vec_items c.loop-rule.found.verdicts) (vec_items c.push_reserved.new.self) c.args.found.now.sheet c.loop-rule.found.sheet c.open_rule.new.draft c.rule-item.result
+          c.loop-rule-test.true c.rule-item.is c.loop-rule.invariant.opened c.open_rule.ensures c.push_reserved.ensures.items;
     }
+
+pub returns-clause-all : goal.returns-clause-all
+returns-clause-all c = opens_end c.args.rules.now c.loop-rule.rule-index (vec_items c.args.found.now.verdicts) (vec_items c.loop-rule.found.verdicts) c.args.found.now.sheet c.loop-rule.found.sheet c.loop-rule-test.false c.loop-rule.invariant.opened

@@ -3,7 +3,10 @@ use Rattle.book.specs.Trees.{pure_rules}
 use Rattle.duty.specs.Judging.{JudgedRules}
 use Rattle.duty.proofs.judging.open_rules.Given as goal
 
-abbrev pub invariant-loop-i : goal.invariant-loop-i
-invariant-loop-i l =
-    (vec_len l.verdicts ≡ vec_len l.initial.verdicts + l.i) × (vec_capacity l.verdicts ≡ vec_capacity l.initial.verdicts)
-    × JudgedRules (pure_rules (take l.i l.rules)) [] (vec_items l.initial.verdicts) (vec_items l.verdicts) l.initial.draft l.draft
+abbrev pub invariant-loop-rule : goal.invariant-loop-rule
+invariant-loop-rule l =
+    record {
+      len : vec_len l.found.verdicts ≡ vec_len l.initial.found.verdicts + l.rule-index;
+      capacity : vec_capacity l.found.verdicts ≡ vec_capacity l.initial.found.verdicts;
+      opened : JudgedRules (pure_rules (take l.rule-index l.rules)) [] (vec_items l.initial.found.verdicts) (vec_items l.found.verdicts) l.initial.found.sheet l.found.sheet;
+    }

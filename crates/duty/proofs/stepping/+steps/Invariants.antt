@@ -1,4 +1,4 @@
-use Rattle.std.proofs.Common.{◌+◌, ◌-◌, ◌*◌, ◌≤◌, length}
+use Rattle.std.proofs.Common.{◌+◌, ◌*◌, length}
 use Rattle.book.specs.Trees.{pure_rule}
 use Rattle.duty.proofs.Loops.{Goes}
 use Rattle.duty.proofs.stepping.+steps.Given as goal
@@ -25,8 +25,8 @@ decreases-step_both l = 4 * l.place.budget + 1
 abbrev pub decreases-step_duties : goal.decreases-step_duties
 decreases-step_duties l = 4 * l.place.budget + 4
 
-abbrev pub invariant-step_duties-loop-at : goal.invariant-step_duties-loop-at
-invariant-step_duties-loop-at l = (l.at ≤ length l.below) × Goes (pure_rule l.duty) l.place l.below l.at l.line l.initial.draft l.draft l.left
+abbrev pub invariant-step_duties-loop-rest : goal.invariant-step_duties-loop-rest
+invariant-step_duties-loop-rest l = Goes (pure_rule l.duty) l.place l.below l.rest l.line l.initial.draft l.draft l.left
 
-abbrev pub decreases-step_duties-loop-at : goal.decreases-step_duties-loop-at
-decreases-step_duties-loop-at l = length l.below - l.at
+abbrev pub decreases-step_duties-loop-rest : goal.decreases-step_duties-loop-rest
+decreases-step_duties-loop-rest l = length l.rest

@@ -1,4 +1,5 @@
-use Rattle.pages.proofs.Aligns.{length-column, column_fits}
+use Rattle.pages.specs.Widths.{length-column}
+use Rattle.pages.proofs.Aligns.{column_fits}
 use Rattle.pages.proofs.laws.columns_align.Goals as goal
 
 pub returns : goal.returns

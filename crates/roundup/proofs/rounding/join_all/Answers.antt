@@ -1,15 +1,15 @@
-use Rattle.std.proofs.Common.{sym, ◌∙◌, arith}
-use Rattle.roundup.proofs.Stretches.{taken_in, taken_all}
+use Rattle.std.proofs.Common.{◌≡◌, rules, subst}
+use Rattle.std.proofs.lemmas.Fn.{fold_over, slice_gives, fronts}
+use Rattle.std.specs.Iterator.{AlwaysYields}
+use Rattle.roundup.specs.Rounding.{joined_all}
+use Rattle.roundup.proofs.Stretches.{joined_push}
 use Rattle.roundup.proofs.rounding.join_all.Goals as goal
-
-pub loop-result-preserved : goal.loop-result-preserved
-loop-result-preserved g c =
-    let laws = g.met.K.Joining in
-    taken_in g.K.Joining.join g.K.Joining.neutral laws.regrouped laws.exchanged laws.unchanged c.loop-result.total c.joined-total.result c.result-item.result c.loop-result.result-index c.args.results.now (omega arith) c.result-item.is c.joined-total.ensures
-    ∙ c.loop-result.invariant
 
 pub returns : goal.returns
 returns g c =
+    let k = g.K.Joining in
     let laws = g.met.K.Joining in
-    sym (taken_all g.K.Joining.join g.K.Joining.neutral laws.regrouped laws.exchanged laws.unchanged c.loop-result.total c.loop-result.result-index c.args.results.now (omega arith))
-    ∙ c.loop-result.invariant
+    let items = subst (λ l. AlwaysYields fronts (λ y. y.now) c.iter.result l) c.iter.ensures.rest (slice_gives c.iter.result) in
+    fold_over fronts (λ y. y.now) _ (λ ys a. a ≡ joined_all k.join k.neutral ys) _
+    (λ ys a x b f' is call. let made = joined_push k.join k.neutral laws.regrouped laws.exchanged laws.unchanged a x.now ys is in search rules)
+    c.iter.result c.args.results.now c.neutral.result c.fold.result items c.neutral.ensures c.fold.ensures.ran

@@ -1,4 +1,4 @@
-use Rattle.std.proofs.Common.{◌-◌, ◌≤◌, List}
+use Rattle.std.proofs.Common.{List}
 use Rattle.book.specs.Rules.{Rule}
 use Rattle.feed.specs.declared.lines.Line.{Line}
 use Rattle.auditor.specs.Holds.{Holds}
@@ -8,7 +8,4 @@ use Rattle.auditor.proofs.auditors.Auditor.take.Given as goal
 abbrev pub invariant-loop-lines : goal.invariant-loop-lines
 invariant-loop-lines g l =
     let w = g.F.Feed.waiting in
-    (l.lines ≤ l.count) × ((rs : List Rule) (log : List Line) → Holds rs log l.initial.self → Sofar rs log (w l.initial.feed) l.lines l.self (w l.feed))
-
-abbrev pub decreases-loop-lines : goal.decreases-loop-lines
-decreases-loop-lines g l = l.count - l.lines
+    (rs : List Rule) (log : List Line) → Holds rs log l.initial.self → Sofar rs log (w l.initial.feed) l.lines l.self (w l.feed)

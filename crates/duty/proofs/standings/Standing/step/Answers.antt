@@ -2,6 +2,7 @@ use Rattle.std.proofs.Common.{◌≤◌, [], ◌∷◌, ◌++◌, length, vec_it
 use Rattle.duty.specs.Verdicts.{verdicts}
 use Rattle.duty.specs.Sheet.{book_sheet}
 use Rattle.duty.specs.Standings.{rules_of}
+use Rattle.duty.proofs.Written.{counted}
 use Rattle.duty.proofs.Sets.{covered_all}
 use Rattle.duty.proofs.Unchanged.{verdicts-same, book-same}
 use Rattle.duty.proofs.standings.Standing.step.Goals as goal
@@ -14,11 +15,11 @@ returns c =
           let longer = log ++ (c.args.line.now ∷ []) in
           let es = book_sheet (rules_of c.args.self.now) longer in
           let j = c.judge.ensures.all log n h.judged h.listed in
-          let w = j.written [] c.clear-2.ensures in
-          let fits : length es ≤ 256 = omega (arith, w.count, c.if-self-gt-PLACES.false) in (
+          let w = j.written [] c.clear.ensures.blank.empty in
+          let fits : length es ≤ 256 = omega (arith, counted c.judge.new.next.sheet es w, c.count.ensures, c.if-count-gt-PLACES.false) in (
             record {
-              judged = ap (λ v. vec_items v) c.swap.ensures.x_after ∙ (j.judged ∙ ap (λ vs. vs ++ verdicts (rules_of c.args.self.now) longer) c.clear.ensures.items);
-              listed = ap (λ d. vec_items d.entries) c.swap-2.ensures.x_after ∙ (w.items ∙ take_all 256 es fits);
+              judged = ap (λ f. vec_items f.verdicts) c.swap.ensures.x_after ∙ (j.judged ∙ ap (λ vs. vs ++ verdicts (rules_of c.args.self.now) longer) c.clear.ensures.blank.none);
+              listed = ap (λ f. vec_items f.sheet.entries) c.swap.ensures.x_after ∙ (w ∙ take_all 257 es (omega arith));
             },
             fits,
           );
@@ -35,7 +36,12 @@ returns-then-not-has c =
           let rs = rules_of self in
           let idle = covered_all self.state.kinds rs self.state.covered line (sym c.if-not-has.ensures) in
           let same = h.listed ∙ sym (book-same rs line idle log) in
-          let fits : length (book_sheet rs (log ++ (line ∷ []))) ≤ 256 = omega (arith, ap length same, self.state.sheet.stored, self.state.sheet.entries.ok.0) in
+          let fits : length (book_sheet rs (log ++ (line ∷ []))) ≤ 256 = omega (arith, ap length same, self.state.fits) in
           (record { judged = h.judged ∙ sym (verdicts-same rs line idle log); listed = same }, fits);
       kept = tt;
     }
+
+pub returns-then-count-gt-PLACES-clause-taken : goal.returns-then-count-gt-PLACES-clause-taken
+returns-then-count-gt-PLACES-clause-taken c log n h fits =
+    let w = (c.judge.ensures.all log n h.judged h.listed).written [] c.clear.ensures.blank.empty in
+    omega (arith, counted c.judge.new.next.sheet _ w, c.count.ensures, c.if-count-gt-PLACES.true)
