@@ -1,12 +1,12 @@
 use Rattle.std.proofs.Common.{refl}
-use Rattle.feed.specs.Lines.{line_of}
+use Rattle.feed.specs.Lines.{limited, line_of}
 use Rattle.duty.specs.Matching.{matches, effect}
 use Rattle.duty.specs.Verdicts.{V}
 use Rattle.duty.specs.Sheet.{sheet}
 use Rattle.duty.specs.Worked.{WorkedLogs}
 
 pub worked : WorkedLogs
-unfolding matches effect V sheet line_of
+unfolding matches effect V sheet limited line_of
 worked =
     record {
       log1 = refl;
