@@ -95,10 +95,6 @@ ToldRest k n from (Ok u) xs ys = (rs : List Rule) × (pure_rules ys ≡ pure_rul
 ToldRest k n from (Err (Faulty e)) xs ys = Fails (List Rule) (book_items k n) (any (List Rule)) from e.reason e.place
 ToldRest k n from (Err NoMemory) xs ys = Unit {0}
 
--- no rule was read yet
-pub read-none : (k n : ℕ) (from : List Lexeme) (xs : List held.Rule) (r : Result (Unit {0}) Refusal) (ys : List held.Rule) → k ≡ 0 → xs ≡ [] → ToldRest k n from r xs ys → ToldRest 0 n from r [] ys
-read-none k n from xs r ys e f h = subst (λ l. ToldRest 0 n from r l ys) f (subst (λ j. ToldRest j n from r xs ys) e h)
-
 -- all rules were read
 pub read-all : (from : List Lexeme) (xs : List held.Rule) → ToldRest 0 0 from (Ok tt) [] xs → Reads from (items (pure_rules xs)) []
 read-all from xs h = subst (λ rs. Reads from (items rs) []) (sym h.1) h.2

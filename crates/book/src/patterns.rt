@@ -57,23 +57,26 @@ impl Reader<'_> {
     // The binders after `fields` and `letters`, each behind a comma, and what ends them.
     fn read_more_binders(
         &mut self,
-        fields: Fields,
-        letters: Letters,
+        mut fields: Fields,
+        mut letters: Letters,
         out: &mut Vec<Binder>,
     ) -> Result<Ending, Refusal>
         ensures { ToldBinders (more_closed fields letters) (coming self.old) result (coming self.new) out.old.items out.new.items }
     {
-        let seen = self.next()?;
-        match seen.terminal {
-            Terminal::If => Ok(Ending::Conditions),
-            Terminal::CloseSquare => Ok(Ending::Pattern),
-            Terminal::Comma => {
-                let field = self.read_field(fields)?;
-                let operand = self.read_operand(letters)?;
-                out.push(Binder { field, operand })?;
-                self.read_more_binders(fields.with(field), letters.with_operand(operand), out)
+        loop {
+            let seen = self.next()?;
+            match seen.terminal {
+                Terminal::If => return Ok(Ending::Conditions),
+                Terminal::CloseSquare => return Ok(Ending::Pattern),
+                Terminal::Comma => {
+                    let field = self.read_field(fields)?;
+                    let operand = self.read_operand(letters)?;
+                    out.push(Binder { field, operand })?;
+                    fields = fields.with(field);
+                    letters = letters.with_operand(operand);
+                }
+                _ => return Err(Refusal::Faulty(seen.fault(Reason::NotAllowed))),
             }
-            _ => Err(Refusal::Faulty(seen.fault(Reason::NotAllowed))),
         }
     }
 

@@ -1,5 +1,5 @@
 -- Binders and conditions one after the other.
-use Rattle.std.proofs.Common.{◌≡◌, ℕ, zero, suc, ◌+◌, ◌<◌, ◌≤◌, Bool, true, false, cond, not, eqb, List, [], ◌∷◌, length, get_or, drop, set, is_some, Some, None, vec_items, Option, Vec, sym, refl, ap, ◌∙◌, subst, inl, inr, arith, get_or-set_other}
+use Rattle.std.proofs.Common.{◌≡◌, ℕ, zero, suc, ◌+◌, ◌<◌, ◌≤◌, Bool, true, false, cond, not, eqb, List, [], ◌∷◌, length, get_or, drop, set, Some, None, vec_items, Option, Vec, sym, refl, ap, ◌∙◌, subst, inl, inr, arith, get_or-set_other}
 use Rattle.std.specs.Prelude.{option_and_then}
 use borrow.Author.Tests.{clash}
 use Rattle.std.proofs.lemmas.Bool.{not-true, or_cases, or_left, or_right}
@@ -17,10 +17,9 @@ use Rattle.book.specs.declared.terms.Operand.{Operand}
 use Rattle.book.specs.declared.terms.Operand.TheVariants as operand
 use Rattle.book.specs.declared.terms.Binder.{Binder}
 use Rattle.book.specs.declared.terms.Condition.{Condition}
-use Rattle.book.specs.Rules.{Pattern, lines}
+use Rattle.book.specs.Rules.{lines}
 use Rattle.duty.specs.Clashes.{clashed, clashes, ruled_out}
-use Rattle.duty.specs.Matching.{Bindings, unbound, bound, all_hold, agreed, agrees, bind, matches, acting, ending, effect}
-use Rattle.duty.specs.declared.matching.Effect.TheVariants.{Ends}
+use Rattle.duty.specs.Matching.{Bindings, unbound, bound, all_hold, agreed, agrees, bind, matches}
 
 pub bind-none : (bs : List Binder) (i : ℕ) (d : Binder) (l : Line) (f : Bindings) → i < length bs → agrees (get_or bs i d).operand (value l (get_or bs i d).field) f ≡ None → bind (drop i bs) l f ≡ None
 bind-none bs i d l f h e = at_drop_more (λ x. bind x l f) bs i d h ∙ ap (λ x. option_and_then (bind (drop (i + 1) bs) l) x) e
@@ -40,26 +39,6 @@ number_at cs i c h is k = subst (λ x. (sum_number x.left ≤ 9999999) × (sum_n
 pub lines_none : (bs : List Binder) (cs : List Condition) (l : Line) (f : Bindings) → bind bs l f ≡ None → matches (lines bs cs) l f ≡ None
 unfolding matches
 lines_none bs cs l f e = ap (λ x. option_and_then (λ g. cond (all_hold g cs) (Some g) None) x) e
-
--- what a line does
-pub effect_ends : (p q : Pattern) (f : Bindings) (l : Line) → true ≡ is_some (matches q l f) → Ends ≡ effect p q f l
-unfolding effect
-effect_ends p q f l h = go (matches q l f) h
-  where
-    go : (x : Option Bindings) → true ≡ is_some x → Ends ≡ ending x (acting (matches p l f))
-    go None e = cc
-    go (Some g) e = refl
-
-effect_not : (p q : Pattern) (f : Bindings) (l : Line) → false ≡ is_some (matches q l f) → effect p q f l ≡ acting (matches p l f)
-unfolding effect
-effect_not p q f l h = go (matches q l f) h
-  where
-    go : (x : Option Bindings) → false ≡ is_some x → ending x (acting (matches p l f)) ≡ acting (matches p l f)
-    go None e = refl
-    go (Some g) e = cc
-
-pub effect_is : (p q : Pattern) (f : Bindings) (l : Line) (x : Option Bindings) → false ≡ is_some (matches q l f) → x ≡ matches p l f → acting x ≡ effect p q f l
-effect_is p q f l x h e = ap acting e ∙ sym (effect_not p q f l h)
 
 -- a letter that is bound stays so, and a binder that clashes with it never agrees
 bound-stays : (f : Bindings) (i j : ℕ) (v : Option ℕ) (y : ℕ) → clashed (get_or f i None) y ≡ true → get_or f j None ≡ None → clashed (get_or (set f j v) i None) y ≡ true

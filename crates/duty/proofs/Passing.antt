@@ -17,7 +17,7 @@ use Rattle.duty.specs.declared.drafts.Draft.{Draft}
 use Rattle.duty.specs.declared.entries.Entry.{Entry}
 use Rattle.duty.specs.declared.matching.Effect.TheVariants.{Passes}
 use Rattle.duty.specs.declared.outcomes.Outcome.{Outcome}
-use Rattle.duty.specs.declared.outcomes.Outcome.TheVariants.{Satisfied, Open as StillOpen}
+use Rattle.duty.specs.declared.outcomes.Outcome.TheVariants.{Satisfied}
 use Rattle.duty.proofs.Listed.{group}
 use Rattle.duty.proofs.ByKind.{some-entry}
 use Rattle.duty.proofs.Written.{adds_then, adds_as}
@@ -87,11 +87,3 @@ pushed_more es i d d' d'' lt a b = adds_as d d'' _ _ (sym (take_more es i blank 
 
 pub pushed_all : (es : List Entry) (i : ℕ) (d d' : Draft) → length es ≤ i → Adds d d' (take i es) → Adds d d' es
 pushed_all es i d d' le a = adds_as d d' _ _ (take_all i es le) a
-
-pub none_left : (es : List Entry) → length es ≡ 0 → Satisfied ≡ some_left es
-none_left [] e = refl
-none_left (x ∷ es) e = absurd (omega arith)
-
-pub some_left_lem : (es : List Entry) → (length es ≡ 0 → ⊥) → StillOpen ≡ some_left es
-some_left_lem [] h = absurd (h refl)
-some_left_lem (x ∷ es) h = refl

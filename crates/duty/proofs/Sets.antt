@@ -1,9 +1,8 @@
 -- Sets of kinds, one pattern and one rule after the other.
 use mathlib.Core.HLevel.{Unit-prop, ⊥_prop, Π_prop, ×_prop}
 use mathlib.Core.Logic.{∥∥₁_elim}
-use Rattle.std.proofs.Common.{◌≡◌, ℕ, zero, suc, ◌+◌, ◌<◌, ◌≤◌, Bool, true, false, not, List, [], ◌∷◌, ◌++◌, length, get_or, take, set, is_some, None, sym, refl, ap, ◌∙◌, subst, arith, take_all, get_or-set_other, ne_eqb}
+use Rattle.std.proofs.Common.{◌≡◌, ℕ, zero, suc, ◌+◌, ◌<◌, true, false, not, List, [], ◌∷◌, ◌++◌, length, get_or, take, is_some, None, sym, refl, ap, ◌∙◌, subst, arith, ne_eqb}
 use mathlib.Core.Bool.{Bool-set}
-use borrow.Author.Tests.{clash}
 use Rattle.std.proofs.lemmas.Bool.{or_left, or_right}
 use Rattle.std.proofs.lemmas.List.{take_more}
 use Rattle.feed.specs.Lines.{value}
@@ -24,17 +23,6 @@ use Rattle.duty.proofs.Matches.{ruled_out_always}
 
 pub kind_below : (l : Line) → l.kind < 1000
 kind_below l = omega (arith, l.kinded)
-
--- what is left out once a kind is in
-set_there : (xs : List Bool) (n : ℕ) → get_or (set xs n true) n true ≡ true
-set_there [] n = refl
-set_there (x ∷ xs) zero = refl
-set_there (x ∷ xs) (suc n) = set_there xs n
-
-pub set_leaves : (xs : List Bool) (n k : ℕ) → get_or (set xs n true) k true ≡ false → (get_or xs k true ≡ false) × (k ≡ n → ⊥)
-set_leaves xs n k e =
-    let apart : k ≡ n → ⊥ = λ s. clash (sym e ∙ (ap (λ m. get_or (set xs n true) m true) s ∙ set_there xs n)) in
-    (sym (get_or-set_other xs n k true true apart) ∙ e, apart)
 
 -- a line of another kind than a binder's number
 kind_clashes : (bs : List Binder) (i : ℕ) (d : Binder) (n : ℕ) (l : Line) → i < length bs → (get_or bs i d).field ≡ Kind → (get_or bs i d).operand ≡ Number n → (l.kind ≡ n → ⊥) → ruled_out bs l unbound ≡ true
@@ -58,9 +46,6 @@ covers_more rs i r ks ks' lt is covers wider l out =
     let more : take (i + 1) rs ≡ take i rs ++ (r ∷ []) = take_more rs i r lt ∙ ap (λ x. take i rs ++ (x ∷ [])) (sym is) in
     subst (λ x. AllUntouched (pure_rules x) l) (sym more) (more_untouched (take i rs) r l (covers l w.0) w.1)
 
-pub covers_all : (rs : List Rule) (i : ℕ) (ks : Kinds) → length rs ≤ i → CoversAll ks (pure_rules (take i rs)) → CoversAll ks (pure_rules rs)
-covers_all rs i ks le covers = subst (λ x. CoversAll ks (pure_rules x)) (take_all i rs le) covers
-
 -- a set for each rule
 each_more : (kss : List Kinds) (ks : Kinds) (rs : List Rule) (r : Rule) → CoversEach kss (pure_rules rs) → Covers ks (pure_rule r) → CoversEach (kss ++ (ks ∷ [])) (pure_rules (rs ++ (r ∷ [])))
 each_more [] ks [] r all one = (one, tt)
@@ -74,21 +59,11 @@ each_on rs i r kss kss' ks lt is all one push =
     let both = each_more kss ks (take i rs) r all one in
     subst (λ x. CoversEach x (pure_rules (take (i + 1) rs))) (sym push) (subst (λ x. CoversEach (kss ++ (ks ∷ [])) (pure_rules x)) (sym more) both)
 
-pub each-end : (rs : List Rule) (i : ℕ) (kss : List Kinds) → length rs ≤ i → CoversEach kss (pure_rules (take i rs)) → CoversEach kss (pure_rules rs)
-each-end rs i kss le all = subst (λ x. CoversEach kss (pure_rules x)) (take_all i rs le) all
-
 pub each_long : (kss : List Kinds) (rs : List Rule) → CoversEach kss (pure_rules rs) → length kss ≡ length rs
 each_long [] [] all = refl
 each_long [] (r ∷ rs) all = absurd all
 each_long (ks ∷ kss) [] all = absurd all
 each_long (ks ∷ kss) (r ∷ rs) all = ap suc (each_long kss rs all.1)
-
-pub each_at : (kss : List Kinds) (rs : List Rule) (i : ℕ) (d : Kinds) (r : Rule) → CoversEach kss (pure_rules rs) → i < length rs → Covers (get_or kss i d) (pure_rule (get_or rs i r))
-each_at [] [] i d r all lt = absurd (omega arith)
-each_at [] (q ∷ rs) i d r all lt = absurd all
-each_at (ks ∷ kss) [] i d r all lt = absurd all
-each_at (ks ∷ kss) (q ∷ rs) zero d r all lt = all.0
-each_at (ks ∷ kss) (q ∷ rs) (suc i) d r all lt = each_at kss rs i d r all.1 (omega arith)
 
 -- all of these are propositions
 unmatched_prop : (p : Pattern) (l : Line) → IsProp (Unmatched p l)

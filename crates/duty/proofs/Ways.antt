@@ -1,18 +1,16 @@
 -- What a step answers and writes, put together from its parts.
 use Rattle.std.proofs.Common.{◌≡◌, ℕ, suc, ◌+◌, min, false, List, [], ◌∷◌, ◌++◌, length, sym, refl, ap, ◌∙◌, subst, append_assoc, append-nil, arith}
-use Rattle.book.specs.Rules.{Pattern, Rule, duty, trigger}
-use Rattle.book.specs.declared.terms.DutyKind.{DutyKind}
-use Rattle.book.specs.declared.terms.DutyKind.TheVariants.{Must, MustNot}
+use Rattle.book.specs.Rules.{Pattern, Rule, trigger}
 use Rattle.book.specs.declared.terms.TriggerKind.TheVariants.{Once}
 use Rattle.duty.specs.Matching.{Bindings}
 use Rattle.duty.specs.Sheet.{entry}
-use Rattle.duty.specs.Open.{Open, start, Left, met, missed, still, over, waiting, running, watch, duty_step, each_step, together, entries, shown}
+use Rattle.duty.specs.Open.{Open, start, Left, met, missed, still, over, running, watch, each_step, together, entries, shown}
 use Rattle.duty.specs.Drafts.{Drafted, Adds}
 use Rattle.duty.specs.Stepping.{outcome, Came, marks, Closed}
 use Rattle.duty.specs.declared.drafts.Draft.{Draft}
 use Rattle.duty.specs.declared.entries.Entry.{Entry}
 use Rattle.duty.specs.declared.matching.Effect.{Effect}
-use Rattle.duty.specs.declared.matching.Effect.TheVariants.{Acts, Passes}
+use Rattle.duty.specs.declared.matching.Effect.TheVariants.{Acts}
 use Rattle.duty.specs.declared.outcomes.Outcome.{Outcome}
 use Rattle.duty.specs.declared.outcomes.Outcome.TheVariants.{Open as StillOpen}
 use Rattle.duty.specs.declared.places.Place.{Place}
@@ -30,25 +28,10 @@ came_over r s n lev n' lev' h same met d d' a c = record { answer = c.answer; wr
 came_over r s n lev n' lev' h same missed d d' a c = record { answer = c.answer; written = c.written }
 came_over r s n lev n' lev' h same (still o) d d' a c = record { answer = c.answer; written = adds_as d d' _ _ (same o) c.written }
 
-pub duty_passes : (k : DutyKind) (f : Bindings) (m : Effect) → Passes ≡ m → duty_step k f m ≡ still f
-duty_passes k f m e = ap (duty_step k f) (sym e) ∙ go k
-  where
-    go : (k : DutyKind) → duty_step k f Passes ≡ still f
-    go Must = refl
-    go MustNot = refl
-
 -- the entries of a `once` by what is open of it
-pub waiting-entries : (p q : Pattern) (s : Rule) (n lev : ℕ) (f : Bindings) → entry n lev false f ∷ [] ≡ entries (trigger Once p q s) n lev (waiting f)
-unfolding entries
-waiting-entries p q s n lev f = refl
-
 pub running-entries : (p q : Pattern) (s : Rule) (n lev n' lev' : ℕ) (o : Open s) → n' ≡ n + 1 → lev' ≡ lev → entries s n' lev' o ≡ entries (trigger Once p q s) n lev (running o)
 unfolding entries
 running-entries p q s n lev n' lev' o a b = let a' : n' ≡ suc n = omega arith in λ i. entries s (a' i) (b i) o
-
-pub duty-entries : (k : DutyKind) (p q : Pattern) (n lev : ℕ) (f : Bindings) → entry n lev false f ∷ [] ≡ entries (duty k p q) n lev f
-unfolding entries
-duty-entries k p q n lev f = refl
 
 -- closing an `each`
 pub together-more : {A : Type 0} (h : A → List Entry) (ds : List A) (d : A) → together h ds ++ h d ≡ together h (ds ++ (d ∷ []))

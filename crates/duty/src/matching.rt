@@ -154,6 +154,7 @@ pub(crate) fn matched(pattern: &Pattern, line: &Line, letters: &Letters) -> Opti
 }
 
 // The deadline or end is tested first.
+#[tactic(auto, unfolding(crate::specs::Matching::effect))]
 pub(crate) fn effect_of(act: &Pattern, end: &Pattern, line: &Line, letters: &Letters) -> Effect
     requires act { Limited (pure_pattern act.now) }
     requires end { Limited (pure_pattern end.now) }
@@ -169,6 +170,7 @@ pub(crate) fn effect_of(act: &Pattern, end: &Pattern, line: &Line, letters: &Let
 }
 
 // A pattern that does not match this line under any letters, since a number of it is not in the line.
+#[tactic(auto, using(crate::proofs::Matches::ruled_out_always), unfolding(crate::specs::Matching::matches))]
 pub(crate) fn never_matches(pattern: &Pattern, line: &Line) -> bool
     ensures { T result → (f : Bindings) → matches (pure_pattern pattern.now) line.now f ≡ None }
 {

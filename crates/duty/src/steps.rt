@@ -21,6 +21,7 @@ use book::terms::{DutyKind, TriggerKind};
 use feed::lines::Line;
 
 // A duty under these letters: the deadline before the act.
+#[tactic(auto, unfolding(crate::specs::Open::entries))]
 pub(crate) fn step_duty(
     kind: DutyKind,
     act: &Pattern,
@@ -44,6 +45,7 @@ pub(crate) fn step_duty(
 }
 
 // A `once` that has not been triggered. The line that triggers it is not shown to its duty.
+#[tactic(auto, unfolding(crate::specs::Open::entries))]
 pub(crate) fn step_waiting(
     start: &Pattern,
     end: &Pattern,
@@ -124,6 +126,7 @@ pub(crate) fn close_each(
 }
 
 // Neither pattern matches this line, whichever letters are bound.
+#[tactic(auto, using(crate::proofs::Passing::no_effect))]
 fn neither_matches(act: &Pattern, end: &Pattern, line: &Line) -> bool
     ensures { T result → (f : Bindings) → effect_at (pure_pattern act.now) (pure_pattern end.now) f line.now ≡ Passes }
 {
