@@ -52,8 +52,7 @@ impl fmt::Display for Stopped {
             Stop::Dry => write!(f, "stopped: dry after {lines} lines"),
             Stop::Refused(refusal) => {
                 let number = refusal.numbers().number;
-                let words = refusal.words();
-                write!(f, "stopped: refused {number} after {lines} lines: {words}")?;
+                write!(f, "stopped: refused {number} after {lines} lines: {refusal}")?;
                 match refusal {
                     Refusal::Faulty(fault) => write!(f, ", {}", Place(fault)),
                     _ => Ok(()),

@@ -42,7 +42,7 @@ fn print_tally(
 ) -> anyhow::Result<()> {
     let tallies: Vec<Tally> = verdicts
         .iter()
-        .map(|verdict| Tally::of(*verdict))
+        .map(|verdict| Tally::from(*verdict))
         .collect(rt.alloc())?;
     let count = verdicts.len().saturating_sub(start);
     let tally = round_up(tallies.as_slice(), start, count).map_err(outside)?;
