@@ -25,7 +25,8 @@ pub struct Run {
     pub turns: Vec<Turn>,
 }
 
-// Where a faulty item stands.
+// Where a faulty item stands. (A row of the report has these words too, between others: its definition would be cut in two
+// to share them.)
 #[derive(Clone, Copy)]
 struct Place(Fault);
 
@@ -52,7 +53,10 @@ impl fmt::Display for Stopped {
             Stop::Dry => write!(f, "stopped: dry after {lines} lines"),
             Stop::Refused(refusal) => {
                 let number = refusal.numbers().number;
-                write!(f, "stopped: refused {number} after {lines} lines: {refusal}")?;
+                write!(
+                    f,
+                    "stopped: refused {number} after {lines} lines: {refusal}"
+                )?;
                 match refusal {
                     Refusal::Faulty(fault) => write!(f, ", {}", Place(fault)),
                     _ => Ok(()),

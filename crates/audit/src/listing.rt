@@ -74,6 +74,7 @@ impl fmt::Display for Written<Binder> {
 }
 
 // Parts in a row, the first behind an opening and the others behind commas.
+#[derive(Drop)]
 struct Row<'a, T>(&'static str, &'a [T]);
 
 impl<T: Copy> fmt::Display for Row<'_, T>

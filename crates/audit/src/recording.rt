@@ -10,6 +10,7 @@ use report::rows::{fault_row, summary};
 use report::surveys::survey;
 
 // A recording as a feed, and how many whole items its input has.
+#[derive(Drop)]
 pub struct Log<F> {
     pub feed: F,
     pub items: usize,

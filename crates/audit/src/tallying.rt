@@ -73,14 +73,8 @@ fn tally_one(
 }
 
 // The tally of each recording, and of all together.
-pub fn tally(rt: &HostRuntime, paths: &[String]) -> anyhow::Result<Status> {
-    let [book, logs @ ..] = paths else {
-        return misused(rt);
-    };
-    if logs.is_empty() {
-        return misused(rt);
-    }
-    let book = bytes_of(rt, book.as_str())?;
+fn tally_all(rt: &HostRuntime, book: &str, logs: &[String]) -> anyhow::Result<Status> {
+    let book = bytes_of(rt, book)?;
     let mut all: Vec<Verdict> = Vec::new(rt.alloc());
     let mut status = Status::Success;
     for log in logs {
@@ -90,4 +84,12 @@ pub fn tally(rt: &HostRuntime, paths: &[String]) -> anyhow::Result<Status> {
     }
     print_tally(rt, "all", all.as_slice(), 0)?;
     Ok(status)
+}
+
+// A book and one recording or more.
+pub fn tally(rt: &HostRuntime, paths: &[String]) -> anyhow::Result<Status> {
+    match paths {
+        [book, logs @ ..] if !logs.is_empty() => tally_all(rt, book.as_str(), logs),
+        _ => misused(rt),
+    }
 }

@@ -18,10 +18,7 @@ use std::alloc::AllocError;
 fn packed_words(rt: &HostRuntime, text: &[u8]) -> anyhow::Result<Vec<u32>> {
     let mut feed = opened::<Text>(text, 2)?.feed;
     let mut words = Vec::new(rt.alloc());
-    while let Some(item) = feed.look() {
-        let Item::Sound(line) = item else {
-            break;
-        };
+    while let Some(Item::Sound(line)) = feed.look() {
         words.extend_from_slice(&line.words())?;
         let _ = feed.drop_first();
     }

@@ -92,8 +92,8 @@ fn large_text(rt: &HostRuntime) -> anyhow::Result<String> {
     Ok(rule.as_str().repeat(rt.alloc(), 16)?)
 }
 
-// How long reading that book takes, or how large it is. (The other bench has the same text and the same measure: a library
-// for both would promise that text by writing it again, and nothing of time.)
+// How long reading that book takes, or how large it is. (The other bench has the same text, the same measures and the same
+// rows: a library for both would promise that text by writing it again, and nothing of time.)
 fn reading(rt: &HostRuntime, timed: bool) -> anyhow::Result<()> {
     let text = large_text(rt)?;
     let len = text.len();

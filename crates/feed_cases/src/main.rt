@@ -155,8 +155,8 @@ fn opening<E: Named>(rt: &HostRuntime, len: usize, station: u16, first: u64) -> 
     Ok(())
 }
 
-// The numbers of a text, parted by white space. (`report_cases` has the same chain: a library for it would need a
-// definition of parsing, a planted bug and a test.)
+// The numbers of a text, parted by white space. (`report_cases` has the same chain: as a library's function its contract would
+// be longer than the chain.)
 fn numbers(rt: &HostRuntime, path: &str) -> anyhow::Result<Vec<u32>> {
     let text = fs::read_to_string(rt, path)?;
     text.as_str()

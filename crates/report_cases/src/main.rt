@@ -10,8 +10,8 @@ use report::rows::{fault_row, summary};
 use report::surveys::survey;
 use std::fs;
 
-// The numbers of a text, parted by white space. (`feed_cases` has the same chain: a library for it would need a
-// definition of parsing, a planted bug and a test.)
+// The numbers of a text, parted by white space. (`feed_cases` has the same chain: as a library's function its contract would
+// be longer than the chain.)
 fn numbers(rt: &HostRuntime, path: &str) -> anyhow::Result<Vec<u32>> {
     let text = fs::read_to_string(rt, path)?;
     text.as_str()
