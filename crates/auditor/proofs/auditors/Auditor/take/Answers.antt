@@ -1,7 +1,10 @@
-use Rattle.std.proofs.Common.{◌≤◌, ◌++◌, arith}
+use Rattle.std.proofs.Common.{◌≤◌, ◌++◌, append-nil, arith}
 use Rattle.std.proofs.lemmas.Grind.{common_steps}
 use Rattle.auditor.proofs.Takings.{all_taken, stopped, grown}
 use Rattle.auditor.proofs.auditors.Auditor.take.Goals as goal
+
+pub returns-then-not-contains-clause-taken : goal.returns-then-not-contains-clause-taken
+returns-then-not-contains-clause-taken g c = λ rs log h. grind (arith, common_steps, append-nil log, h)
 
 pub returns-in-Err-clause-taken : goal.returns-in-Err-clause-taken
 returns-in-Err-clause-taken g c = λ rs log h.
