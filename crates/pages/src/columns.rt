@@ -7,20 +7,14 @@ ghost use Rattle.pages.specs.Columns.{column, cell};
 fn last_byte(number: Option<u64>) -> u8
     ensures { result ≡ last_byte number }
 {
-    match number {
-        None => b' ',
-        Some(n) => b'0' + (n % 10) as u8,
-    }
+    number.map_or(b' ', |n| b'0' + (n % 10) as u8)
 }
 
 // The digits in front of the last one, if there are any.
 fn in_front(number: Option<u64>) -> Option<u64>
     ensures { result ≡ in_front number }
 {
-    match number {
-        Some(n) if n >= 10 => Some(n / 10),
-        _ => None,
-    }
+    number.filter(|n| *n >= 10).map(|n| n / 10)
 }
 
 // Fills a column of any width from its last byte on, with blanks in front of the digits.

@@ -56,7 +56,7 @@ impl Answer {
     {
         AnswerNumbers {
             count: self.count(),
-            refusal: self.refusal().map(|refusal| refusal.numbers()),
+            refusal: self.refusal().map(Refusal::numbers),
         }
     }
 }

@@ -51,6 +51,7 @@ impl Observer for TurnCount {
         _second: &Auditor,
         _right: &mut G,
     ) {
+        // (With one `&mut` to the count of either side the clause of the moments stays open.)
         match side {
             Side::First => self.first = self.first.saturating_add(1),
             Side::Second => self.second = self.second.saturating_add(1),

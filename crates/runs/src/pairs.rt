@@ -59,7 +59,7 @@ pub fn audit_both<F: Feeds, G: Feeds, O: Observer>(
         feeds: right,
     };
     make_turns(&mut first, &mut second, turns, observer);
-    // (Each feed is named, so that it is known to be the caller's again.)
+    // (With `first.auditor` alone the search finds no proof that the feeds, held by `&mut`, are the caller's again.)
     let Post {
         auditor: first,
         feeds: _left,

@@ -51,7 +51,7 @@ impl Auditor {
     fn take_one<F: Feed>(&mut self, feed: &mut F) -> Result<(), Stop>
         ensures { (rs : List Rule) (log : List Line) → Holds rs log self.old → TakesOne rs log (F.waiting feed.old) result self.new (F.waiting feed.new) }
     {
-        // (`ok_or` with `?` would copy the item twice more: 49 ns to a line in place of 34.)
+        // (`ok_or` with `?` copies the item twice more: 49 ns to a line, and the bar is the 34 of this form before.)
         let Some(item) = feed.look() else {
             return Err(Stop::Dry);
         };
