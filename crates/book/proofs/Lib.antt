@@ -11,3 +11,4 @@ pub mod Texts
 pub mod Either
 pub mod Bounds
 pub mod Counting
+pub mod Equal

@@ -1,13 +1,15 @@
 -- How the lists of a pattern go on.
-use Rattle.std.proofs.Common.{◌≡◌, ℕ, ◌+◌, ◌≤◌, nat_lt, if◌then◌else◌, List, [], ◌∷◌, ◌++◌, Some, None, Ok, Err, Result, sym, refl, ap, ◌∙◌, subst, append_assoc, append-nil, ltb-false}
+use Rattle.std.proofs.Common.{◌≡◌, ◌≢◌, false, MatchOption, Option, ℕ, ◌+◌, ◌≤◌, nat_lt, if◌then◌else◌, List, [], ◌∷◌, ◌++◌, Some, None, Ok, Err, Result, sym, refl, ap, ◌∙◌, subst, append_assoc, append-nil, ltb-false}
 use Rattle.book.specs.declared.patterns.Ending.{Ending}
 use Rattle.book.specs.declared.patterns.Ending.TheVariants as ending
 use Rattle.feed.specs.declared.fields.Field.{Field}
 use Rattle.feed.specs.declared.fields.Field.TheVariants as fields
 use Rattle.book.specs.declared.refusals.Reason.{Reason}
-use Rattle.book.specs.declared.refusals.Reason.TheVariants.{Unbound}
+use Rattle.book.specs.declared.refusals.Reason.TheVariants.{NotAllowed, Unbound}
 use Rattle.book.specs.declared.refusals.Refusal.{Refusal}
 use Rattle.book.specs.declared.refusals.Refusal.TheVariants.{Faulty, NoMemory}
+use Rattle.std.specs.Option.{ok_or}
+use Rattle.book.specs.declared.terminals.Seen.{Seen}
 use Rattle.book.specs.declared.terms.Letter.{Letter}
 use Rattle.book.specs.declared.terms.Binder.{Binder}
 use Rattle.book.specs.declared.terms.Operand.{Operand}
@@ -18,15 +20,16 @@ use Rattle.book.specs.declared.terms.Sum.{Sum}
 use Rattle.book.specs.declared.terms.Sum.TheVariants.{One, Two, Three}
 use Rattle.book.specs.declared.terms.Condition.{Condition}
 use Rattle.book.specs.declared.terminals.Terminal.{Terminal}
-use Rattle.book.specs.declared.terminals.Terminal.TheVariants.{If, Named, Lettered, Numeral, Comma, CloseSquare}
+use Rattle.book.specs.declared.terminals.Terminal.TheVariants.{Named, Lettered, Numeral, Comma, CloseSquare}
 use Rattle.book.specs.Sets.{Fields, Letters, has, no_letters, no_fields, with_field, with_operand}
 use Rattle.book.specs.Grammar.{Item, item, mark, names, operand_item, part_items, sum_items, condition_items, conditions_items, tokens_of}
 use Rattle.book.specs.Text.{Lexeme}
 use Rattle.book.specs.Faults.{AllSound, fault}
 use Rattle.book.specs.Parts.{ConditionStops}
-use Rattle.book.specs.Patterns.{operand_items, more_closed, binders_closed, ToldBinders, conditions_closed}
+use Rattle.book.specs.Patterns.{closer, operand_items, more_closed, binders_closed, ToldBinders, conditions_closed}
 use Rattle.book.specs.Reading.{Fits, any, Reads, Fails}
-use Rattle.book.proofs.Compose.{within_limit, closed, stops, flat, read_on, alike, within}
+use Rattle.book.specs.Readers.{is_end, seen_as}
+use Rattle.book.proofs.Compose.{one, wrong_first, within_limit, closed, stops, flat, read_on, alike, within}
 use Rattle.book.proofs.Sums.{sum_ends, condition_code}
 
 -- Operands.
@@ -44,10 +47,22 @@ operand_code ls ls' (operand.Bound l) (operand.Bound m) u w e = (cc, cc)
 abbrev pub binder : Field → Operand → Binder
 binder f v = record { field = f; operand = v }
 
-pub more-first : (fs : Fields) (ls : Letters) (bs : List Binder) (b : Ending) (t : Terminal) (u more : List Terminal) → tokens_of (more_closed fs ls (bs, b)) ++ u ≡ t ∷ more → (t ≡ If → ⊥) → (t ≡ CloseSquare → ⊥) → (t ≡ Comma → ⊥) → ⊥
-more-first fs ls [] ending.Conditions t u more e i s c = i (cc)
-more-first fs ls [] ending.Pattern t u more e i s c = s (cc)
-more-first fs ls (x ∷ bs) b t u more e i s c = c (cc)
+closer_goes : (b : Ending) → is_end (closer b) ≡ false
+closer_goes ending.Conditions = refl
+closer_goes ending.Pattern = refl
+
+-- what stands where binders may end is an ending, or not allowed
+pub ended : (P : List Binder × Ending → List Item) (from rest to : List Lexeme) (s : Seen) (xs : List Binder) (o : Option Ending)
+    → ((b : Ending) → P ([], b) ≡ mark (closer b) ∷ [])
+    → ((x : List Binder × Ending) (u more : List Terminal) → tokens_of (P x) ++ u ≡ s.terminal ∷ more → ((b : Ending) → s.terminal ≢ closer b) → ⊥)
+    → from ≡ seen_as s ∷ rest → (is_end s.terminal ≡ false → rest ≡ to) → MatchOption o ((b : Ending) → s.terminal ≢ closer b) (λ b. s.terminal ≡ closer b)
+    → ToldBinders P from (ok_or o (Faulty (record { reason = NotAllowed; place = s.place }))) to xs xs
+ended P from rest to s xs None eq none e goes m = wrong_first (List Binder × Ending) P (any (List Binder × Ending)) ([], ending.Pattern) from rest s e (λ x u more f q. none x u more q m)
+ended P from rest to s xs (Some b) eq none e goes m = ([], sym (append-nil _), alike _ _ _ _ (sym (eq b)) (one from rest to s (mark (closer b)) e goes m (closer_goes b) refl))
+
+pub more-first : (fs : Fields) (ls : Letters) (bs : List Binder) (b : Ending) (t : Terminal) (u more : List Terminal) → tokens_of (more_closed fs ls (bs, b)) ++ u ≡ t ∷ more → ((b : Ending) → t ≢ closer b) → t ≢ Comma → ⊥
+more-first fs ls [] b t u more e n c = n b (cc)
+more-first fs ls (x ∷ bs) b t u more e n c = c (cc)
 
 pub inv_field : (fs : Fields) (ls : Letters) (bs : List Binder) (b : Ending) (u v : List Terminal) → tokens_of (more_closed fs ls (bs, b)) ++ u ≡ Comma ∷ v → (x : Field) × (w : List Terminal) × (v ≡ Named x ∷ w)
 inv_field fs ls [] ending.Conditions u v e = absurd (cc)
@@ -83,10 +98,9 @@ more_binders_lem fs ls f o from mid to xs ys zs a e (Err (Faulty x)) h =
 more_binders_lem fs ls f o from mid to xs ys zs a e (Err NoMemory) h = tt
 
 -- Binders from the first on.
-pub binders_first : (bs : List Binder) (b : Ending) (t : Terminal) (u more : List Terminal) → tokens_of (binders_closed (bs, b)) ++ u ≡ t ∷ more → (t ≡ If → ⊥) → (t ≡ CloseSquare → ⊥) → ((f : Field) → t ≡ Named f → ⊥) → ⊥
-binders_first [] ending.Conditions t u more e i s c = i (cc)
-binders_first [] ending.Pattern t u more e i s c = s (cc)
-binders_first (x ∷ bs) b t u more e i s c = c x.field (cc)
+pub binders_first : (bs : List Binder) (b : Ending) (t : Terminal) (u more : List Terminal) → tokens_of (binders_closed (bs, b)) ++ u ≡ t ∷ more → ((b : Ending) → t ≢ closer b) → ((f : Field) → t ≢ Named f) → ⊥
+binders_first [] b t u more e n c = n b (cc)
+binders_first (x ∷ bs) b t u more e n c = c x.field (cc)
 
 pub inv_first_operand : (f : Field) (bs : List Binder) (b : Ending) (u v : List Terminal) → tokens_of (binders_closed (bs, b)) ++ u ≡ Named f ∷ v → (x : Operand) × (w : List Terminal) × (v ≡ tokens_of (operand_items no_letters x) ++ w)
 inv_first_operand f [] ending.Conditions u v e = absurd (cc)

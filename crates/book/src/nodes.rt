@@ -36,9 +36,7 @@ impl Reader<'_> {
         ensures room { OnOk result (HasRoom nodes.now.begun place.around) }
     {
         let seen = self.next()?;
-        let Some(opening) = Opening::of(seen.terminal) else {
-            return Err(seen.fault(Reason::NotAllowed));
-        };
+        let opening = Opening::of(seen.terminal).ok_or(seen.fault(Reason::NotAllowed))?;
         place
             .check_node(nodes)
             .map_err(|reason| seen.fault(reason))?;
@@ -67,6 +65,7 @@ impl Reader<'_> {
         ensures stays { place.new ≡ place.old }
         ensures counted { Counted nodes.old result nodes.new }
     {
+        // Not counted here once for all: what the readers of brackets and triggers promise starts from the count before the node.
         match self.read_opening(*place, nodes)? {
             Opening::Duty(kind) => {
                 nodes.begun += 1;
@@ -138,7 +137,6 @@ impl Reader<'_> {
         let nested = Nested { place, former };
         nested.place.around = former.around + 1;
         nested.place.bound = bound;
-        let rule = self.read_rule(nested.place, nodes)?;
-        Ok(rule)
+        self.read_rule(nested.place, nodes)
     }
 }

@@ -14,7 +14,7 @@ pub(crate) enum Opening {
 }
 
 impl Opening {
-    // What a rule that begins with this terminal is. No `TryFrom`: only the reader knows which fault it is that none begins so.
+    // What a rule that begins with this terminal is. No `TryFrom`: all other terminals have one reason, so an error says no more than `None`.
     pub(crate) fn of(terminal: Terminal) -> Option<Opening>
         ensures { MatchOption result ((o : Opening) → terminal ≢ opening_terminal o) (λ o. terminal ≡ opening_terminal o) }
     {

@@ -37,9 +37,7 @@ impl Scope {
     fn check_letter(self, letter: Letter) -> Result<(), Reason>
         ensures { result_err result ≡ role_fault (uses self.number self.bound letter) }
     {
-        if self.number > CONDITIONS {
-            return Err(Reason::PastLimit);
-        }
+        self.check_number()?;
         if !self.bound.has(letter) {
             return Err(Reason::Unbound);
         }
@@ -91,9 +89,9 @@ impl Reader<'_> {
         let Part::Number(number) = lead else {
             return Ok((lead, seen));
         };
-        let Terminal::Times = seen.terminal else {
+        if seen.terminal != Terminal::Times {
             return Ok((lead, seen));
-        };
+        }
         let letter = self.read_letter(scope)?;
         let after = self.next()?;
         Ok((Part::Product(number, letter), after))
@@ -104,13 +102,13 @@ impl Reader<'_> {
         ensures { ToldNext Sum (sum_items scope.number scope.bound) SumStops (coming self.old) result (coming self.new) }
     {
         let (first, plus) = self.read_part(scope)?;
-        let Terminal::Plus = plus.terminal else {
+        if plus.terminal != Terminal::Plus {
             return Ok((Sum::One(first), plus));
-        };
+        }
         let (second, more) = self.read_part(scope)?;
-        let Terminal::Plus = more.terminal else {
+        if more.terminal != Terminal::Plus {
             return Ok((Sum::Two(first, second), more));
-        };
+        }
         let (third, after) = self.read_part(scope)?;
         Ok((Sum::Three(first, second, third), after))
     }

@@ -1,8 +1,8 @@
 // Reads patterns.
-ghost use Rattle.std.specs.Prelude.{◌≡◌};
+ghost use Rattle.std.specs.Prelude.{◌≡◌, ◌≢◌, MatchOption};
 ghost use Rattle.book.specs.Rules.{Pattern as PatternMeant};
 ghost use Rattle.book.specs.Grammar.{pattern_items};
-ghost use Rattle.book.specs.Patterns.{field_items, operand_items, more_closed, binders_closed, ToldBinders, ToldConditions};
+ghost use Rattle.book.specs.Patterns.{field_items, operand_items, closer, more_closed, binders_closed, ToldBinders, ToldConditions};
 ghost use Rattle.book.specs.Readers.{coming, Told, ToldBy};
 ghost use Rattle.book.specs.Trees.{pure_pattern};
 
@@ -20,6 +20,19 @@ use feed::fields::Field;
 pub(crate) enum Ending {
     Conditions,
     Pattern,
+}
+
+impl Ending {
+    // Which ending a terminal is.
+    fn of(terminal: Terminal) -> Option<Ending>
+        ensures { MatchOption result ((b : Ending) → terminal ≢ closer b) (λ b. terminal ≡ closer b) }
+    {
+        match terminal {
+            Terminal::If => Some(Ending::Conditions),
+            Terminal::CloseSquare => Some(Ending::Pattern),
+            _ => None,
+        }
+    }
 }
 
 impl Reader<'_> {
@@ -65,18 +78,14 @@ impl Reader<'_> {
     {
         loop {
             let seen = self.next()?;
-            match seen.terminal {
-                Terminal::If => return Ok(Ending::Conditions),
-                Terminal::CloseSquare => return Ok(Ending::Pattern),
-                Terminal::Comma => {
-                    let field = self.read_field(fields)?;
-                    let operand = self.read_operand(letters)?;
-                    out.push(Binder { field, operand })?;
-                    fields = fields.with(field);
-                    letters = letters.with_operand(operand);
-                }
-                _ => return Err(Refusal::Faulty(seen.fault(Reason::NotAllowed))),
+            if seen.terminal != Terminal::Comma {
+                return Ending::of(seen.terminal).ok_or(seen.fault(Reason::NotAllowed).into());
             }
+            let field = self.read_field(fields)?;
+            let operand = self.read_operand(letters)?;
+            out.push(Binder { field, operand })?;
+            fields = fields.with(field);
+            letters = letters.with_operand(operand);
         }
     }
 
@@ -85,20 +94,16 @@ impl Reader<'_> {
         ensures { ToldBinders binders_closed (coming self.old) result (coming self.new) out.old.items out.new.items }
     {
         let seen = self.next()?;
-        match seen.terminal {
-            Terminal::If => Ok(Ending::Conditions),
-            Terminal::CloseSquare => Ok(Ending::Pattern),
-            Terminal::Named(field) => {
-                let operand = self.read_operand(Letters::none())?;
-                out.push(Binder { field, operand })?;
-                self.read_more_binders(
-                    Fields::none().with(field),
-                    Letters::none().with_operand(operand),
-                    out,
-                )
-            }
-            _ => Err(Refusal::Faulty(seen.fault(Reason::NotAllowed))),
-        }
+        let Terminal::Named(field) = seen.terminal else {
+            return Ending::of(seen.terminal).ok_or(seen.fault(Reason::NotAllowed).into());
+        };
+        let operand = self.read_operand(Letters::none())?;
+        out.push(Binder { field, operand })?;
+        self.read_more_binders(
+            Fields::none().with(field),
+            Letters::none().with_operand(operand),
+            out,
+        )
     }
 
     // The conditions of a pattern, up to the `]`, where these letters are bound.
@@ -113,7 +118,7 @@ impl Reader<'_> {
             match after.terminal {
                 Terminal::CloseSquare => return Ok(conditions),
                 Terminal::Comma => (),
-                _ => return Err(Refusal::Faulty(after.fault(Reason::NotAllowed))),
+                _ => return Err(after.fault(Reason::NotAllowed).into()),
             }
         }
     }
@@ -137,7 +142,7 @@ impl Reader<'_> {
                     conditions,
                 })
             }
-            _ => Err(Refusal::Faulty(seen.fault(Reason::NotAllowed))),
+            _ => Err(seen.fault(Reason::NotAllowed).into()),
         }
     }
 }

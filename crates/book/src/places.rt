@@ -15,7 +15,7 @@ const NODES: usize = 64;
 
 const DEPTH: usize = 8;
 
-// How many nodes of a book have begun.
+// How many nodes of a book have begun. It stands beside a place, not in it: it counts on over the whole text, while a place is put back after each node.
 #[derive(Drop)]
 pub(crate) struct Nodes {
     pub(crate) begun: usize,

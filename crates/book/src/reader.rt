@@ -6,7 +6,6 @@ ghost use Rattle.book.specs.Readers.{coming, Next, Told, is_end, only_items};
 
 use crate::refusals::{Fault, Reason};
 use crate::terminals::{Seen, Terminal};
-use crate::words::terminal_of;
 use std::alloc::Global;
 use tokens::cursor;
 use tokens::source::Cursor;
@@ -40,7 +39,7 @@ impl<'a> Reader<'a> {
     {
         let found = cursor::next(&mut self.cursor);
         let place = found.place;
-        let terminal = terminal_of(found.token).map_err(|reason| Fault { reason, place })?;
+        let terminal = Terminal::try_from(found.token).map_err(|reason| Fault { reason, place })?;
         Ok(Seen { terminal, place })
     }
 

@@ -36,10 +36,11 @@ pub fn read_book(heap: Global, text: &[u8]) -> Result<Book, Refusal>
     ensures { Answered text.now result }
 {
     if text.len() > BYTES {
-        return Err(Refusal::Faulty(Fault {
+        let fault = Fault {
             reason: Reason::TooLong,
             place: 0,
-        }));
+        };
+        return Err(fault.into());
     }
     let rules = Reader::new(heap, text).read_rules()?;
     Ok(Book::of(rules))

@@ -83,14 +83,18 @@ fn number_terminal(w: &[u8]) -> Result<Terminal, Reason>
 }
 
 // The terminal that a token stands for.
-pub(crate) fn terminal_of(token: Token<'_>) -> Result<Terminal, Reason>
-    ensures { result ≡ meaning (stretch_of token.entry) }
-{
-    match token {
-        Token::Word(w) => word_terminal(w),
-        Token::Number(w) => number_terminal(w),
-        Token::Mark(s) => Ok(Terminal::from(s)),
-        Token::Stray => Err(Reason::NoToken),
-        Token::End => Ok(Terminal::End),
+impl TryFrom<Token<'_>> for Terminal {
+    type Error = Reason;
+
+    ghost try_from_gives = { λ token result. result ≡ meaning (stretch_of token) };
+
+    fn try_from(token: Token<'_>) -> Result<Terminal, Reason> {
+        match token {
+            Token::Word(w) => word_terminal(w),
+            Token::Number(w) => number_terminal(w),
+            Token::Mark(s) => Ok(Terminal::from(s)),
+            Token::Stray => Err(Reason::NoToken),
+            Token::End => Ok(Terminal::End),
+        }
     }
 }

@@ -46,18 +46,12 @@ covers_more rs i r ks ks' lt is covers wider l out =
     let more : take (i + 1) rs ≡ take i rs ++ (r ∷ []) = take_more rs i r lt ∙ ap (λ x. take i rs ++ (x ∷ [])) (sym is) in
     subst (λ x. AllUntouched (pure_rules x) l) (sym more) (more_untouched (take i rs) r l (covers l w.0) w.1)
 
--- a set for each rule
-each_more : (kss : List Kinds) (ks : Kinds) (rs : List Rule) (r : Rule) → CoversEach kss (pure_rules rs) → Covers ks (pure_rule r) → CoversEach (kss ++ (ks ∷ [])) (pure_rules (rs ++ (r ∷ [])))
-each_more [] ks [] r all one = (one, tt)
-each_more [] ks (q ∷ rs) r all one = absurd all
-each_more (k ∷ kss) ks [] r all one = absurd all
-each_more (k ∷ kss) ks (q ∷ rs) r all one = (all.0, each_more kss ks rs r all.1 one)
-
-pub each_on : (rs : List Rule) (i : ℕ) (r : Rule) (kss kss' : List Kinds) (ks : Kinds) → i < length rs → r ≡ get_or rs i r → CoversEach kss (pure_rules (take i rs)) → Covers ks (pure_rule r) → kss' ≡ kss ++ (ks ∷ []) → CoversEach kss' (pure_rules (take (i + 1) rs))
-each_on rs i r kss kss' ks lt is all one push =
-    let more : take (i + 1) rs ≡ take i rs ++ (r ∷ []) = take_more rs i r lt ∙ ap (λ x. take i rs ++ (x ∷ [])) (sym is) in
-    let both = each_more kss ks (take i rs) r all one in
-    subst (λ x. CoversEach x (pure_rules (take (i + 1) rs))) (sym push) (subst (λ x. CoversEach (kss ++ (ks ∷ [])) (pure_rules x)) (sym more) both)
+-- a set for each rule, place by place
+pub each_covered : (kss : List Kinds) (rs : List Rule) → length kss ≡ length rs → ((k : ℕ) (d : Kinds) (e : Rule) → k < length rs → Covers (get_or kss k d) (pure_rule (get_or rs k e))) → CoversEach kss (pure_rules rs)
+each_covered [] [] same h = tt
+each_covered [] (r ∷ rs) same h = absurd (omega arith)
+each_covered (ks ∷ kss) [] same h = absurd (omega arith)
+each_covered (ks ∷ kss) (r ∷ rs) same h = (h 0 ks r (omega arith), each_covered kss rs (omega arith) (λ k d e lt. h (suc k) d e (omega arith)))
 
 pub each_long : (kss : List Kinds) (rs : List Rule) → CoversEach kss (pure_rules rs) → length kss ≡ length rs
 each_long [] [] all = refl

@@ -1,6 +1,6 @@
 -- Where a group ends.
-use Rattle.std.proofs.Common.{◌≡◌, ℕ, ◌+◌, ◌≤◌, ltb, List, [], ◌∷◌, ◌++◌, length, take, drop, sym, refl, ap, ◌∙◌, arith, take_at, drop_at}
-use Rattle.std.proofs.lemmas.Bool.{lt-ltb, le-ltb, cond-true, cond-false}
+use Rattle.std.proofs.Common.{◌≡◌, ℕ, ◌+◌, ◌≤◌, nat_lt, if◌then◌else◌, List, [], ◌∷◌, ◌++◌, length, take, drop, sym, refl, ap, ◌∙◌, arith, take_at, drop_at}
+use Rattle.std.proofs.lemmas.Bool.{lt-ltb, le-ltb}
 use Rattle.std.specs.List.{prefix_len}
 use Rattle.duty.specs.Facts.{Deeper, Group}
 use Rattle.duty.specs.Groups.{group_size}
@@ -12,14 +12,14 @@ abbrev pub Shallow : ℕ → List Entry → Type 0
 Shallow lev [] = Unit {0}
 Shallow lev (e ∷ es) = e.level ≤ lev
 
-deep_prefix : (lev : ℕ) (es rest : List Entry) → Deeper lev es → Shallow lev rest → prefix_len (λ x. ltb lev x.level) (es ++ rest) ≡ length es
+deep_prefix : (lev : ℕ) (es rest : List Entry) → Deeper lev es → Shallow lev rest → prefix_len (λ x. nat_lt lev x.level) (es ++ rest) ≡ length es
 deep_prefix lev [] [] d s = refl
-deep_prefix lev [] (r ∷ rs) d s = cond-false (ltb lev r.level) _ _ (le-ltb lev r.level s)
-deep_prefix lev (e ∷ es) rest d s = cond-true (ltb lev e.level) (1 + prefix_len (λ x. ltb lev x.level) (es ++ rest)) 0 (lt-ltb lev e.level d.0) ∙ omega (arith, deep_prefix lev es rest d.1 s)
+deep_prefix lev [] (r ∷ rs) d s = ap (λ deeper. if deeper then 1 + prefix_len (λ x. nat_lt lev x.level) rs else 0) (le-ltb lev r.level s)
+deep_prefix lev (e ∷ es) rest d s = ap (λ deeper. if deeper then 1 + prefix_len (λ x. nat_lt lev x.level) (es ++ rest) else 0) (lt-ltb lev e.level d.0) ∙ omega (arith, deep_prefix lev es rest d.1 s)
 
 group_length : (lev : ℕ) (g rest : List Entry) → Group lev g → Shallow lev rest → group_size (g ++ rest) ≡ length g
 group_length lev [] rest g s = absurd g
-group_length lev (e ∷ es) rest g s = omega (arith, ap (λ k. prefix_len (λ x. ltb k x.level) (es ++ rest)) g.0 ∙ deep_prefix lev es rest g.1 s)
+group_length lev (e ∷ es) rest g s = omega (arith, ap (λ k. prefix_len (λ x. nat_lt k x.level) (es ++ rest)) g.0 ∙ deep_prefix lev es rest g.1 s)
 
 -- the group at the front, and the rest
 pub record Splits (xs g rest : List Entry) : Type 0 where

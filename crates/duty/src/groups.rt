@@ -1,6 +1,6 @@
 // The entries of a rule: one, and the deeper ones that follow.
 ghost use Rattle.std.specs.Prelude.{◌≡◌, ◌<◌, ◌≤◌, length, take, drop};
-ghost use Rattle.duty.specs.Groups.{group_size};
+ghost use Rattle.duty.specs.Groups.{group_size, head};
 
 use crate::entries::Entry;
 
@@ -9,6 +9,21 @@ use crate::entries::Entry;
 pub struct Group<'a> {
     pub entries: &'a [Entry],
     ghost some: { 0 < length entries.now },
+}
+
+impl<'a> Group<'a> {
+    pub(crate) fn head(self) -> &'a Entry
+        ensures { result.now ≡ head self.entry.entries.now }
+    {
+        &self.entries[0]
+    }
+
+    // The deeper entries, after the head.
+    pub(crate) fn below(self) -> &'a [Entry]
+        ensures { result.now ≡ drop 1 self.entry.entries.now }
+    {
+        &self.entries[1..]
+    }
 }
 
 // How many entries the group at the front has: its head, and the deeper ones that follow.

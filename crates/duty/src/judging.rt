@@ -1,4 +1,5 @@
-// One line for the rules of a book, in order.
+// One line for the rules of a book, in order. The line and its number stay apart: they come apart from the caller, a
+// rule's step takes the line alone, and its verdict the number alone.
 ghost use Rattle.std.specs.Prelude.{◌≡◌, ◌+◌, ◌≤◌, [], length, vec_len, vec_capacity};
 ghost use Rattle.book.specs.Sizes.{WithinLimits};
 ghost use Rattle.book.specs.Trees.{pure_rule, pure_rules};

@@ -31,16 +31,11 @@ fn kind_number(binder: Binder) -> Option<u32>
 }
 
 // A kind that the binders ask for by its number: on a line of another kind they never agree.
+#[tactic(auto, using(crate::proofs::Sets::other_kind))]
 fn kind_asked(binders: &[Binder]) -> Option<u32>
     ensures { IfSome result (λ n. (l : Line) → (l.kind ≢ n) → (f : Bindings) → bind binders.now l f ≡ None) }
 {
-    // A loop, since no lemma of the library ties what `find_map` finds to its place in the list.
-    for binder in binders {
-        if let Some(number) = kind_number(*binder) {
-            return Some(number);
-        }
-    }
-    None
+    binders.iter().find_map(|binder| kind_number(*binder))
 }
 
 impl Kinds {
@@ -111,15 +106,11 @@ impl Kinds {
     }
 
     // The kinds of line that concern each rule, in order.
+    #[tactic(auto, using(crate::proofs::Sets::each_covered))]
     pub(crate) fn of_each(heap: Global, rules: &[Rule]) -> Result<Vec<Kinds>, AllocError>
         ensures { IfOk result (λ kss. CoversEach kss.items (pure_rules rules.now)) }
     {
-        // A loop, since the library's lemmas of `map` and `collect` want a closure that is a function of its item.
-        let mut each = Vec::new(heap);
-        for rule in rules {
-            each.push(Kinds::of_rule(rule))?;
-        }
-        Ok(each)
+        rules.iter().map(Kinds::of_rule).collect(heap)
     }
 
     // The kinds of line that concern some rule.

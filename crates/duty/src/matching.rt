@@ -1,4 +1,6 @@
 // Patterns against lines.
+// The letters and the line stay apart: the letters are of an entry or newly bound, the line is the caller's, and each
+// function that took them as one would take them apart.
 ghost use Rattle.std.specs.Prelude.{◌≡◌, ◌*◌, ◌^◌, ◌<◌, ◌≤◌, T, if◌then◌else◌, Some, None, unwrap_or};
 ghost use Rattle.feed.specs.Lines.{value};
 ghost use Rattle.book.specs.Sizes.{part_number, sum_number, conditions_number};
@@ -77,7 +79,9 @@ fn all_hold(conditions: &[Condition], letters: &Letters) -> bool
         .all(|condition| condition_holds(*condition, letters))
 }
 
-// Binds what a binder adds to the letters, if it agrees with the line.
+// Binds what a binder adds to the letters, if it agrees with the line. The letters are written in place, and the
+// answer stands beside them, here and in `all_bind`: no line may take longer than it did, and on a full sheet an entry
+// takes 45 ns so, and 65 where the letters are answered by value.
 fn binds(binder: Binder, line: &Line, letters: &mut Letters) -> bool
     ensures { (if result then Some letters.new else None) ≡ agrees binder.operand (value line.now binder.field) letters.old }
 {
@@ -94,8 +98,8 @@ fn binds(binder: Binder, line: &Line, letters: &mut Letters) -> bool
     }
 }
 
-// In place, since a sheet with 255 entries takes 65 ns per entry where each binder answers the letters by value, and 45 ns so.
-// Binds what the binders add to the letters, if all of them agree with the line.
+// Binds what the binders add to the letters, if all of them agree with the line. A loop, and no `all`: of a closure
+// that changes what it captures, the letters here, a proof learns nothing.
 fn all_bind(binders: &[Binder], line: &Line, letters: &mut Letters) -> bool
     ensures { (if result then Some letters.new else None) ≡ bind binders.now line.now letters.old }
 {

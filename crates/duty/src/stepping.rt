@@ -1,7 +1,7 @@
 // One line for a rule and its open entries, walked side by side: each step goes into the entries below, with one
-// level less to go. Entries are read from the old sheet and written to the draft of the next. The place and the
-// group, the line and the draft stay parameters of their own: each step changes one of them and hands on the others, so
-// that a struct would be taken apart and put together again at each call.
+// level less to go. Entries are read from the old sheet and written to the draft of the next.
+// Parameters of their own: the place and the group change at each step; a struct that held the draft by `&mut`, with
+// the line, would add to each contract that the draft is still the caller's.
 ghost use Rattle.std.specs.Prelude.{◌≡◌, ◌<◌, ◌≤◌, length};
 ghost use Rattle.book.specs.Rules.{trigger, bracket};
 ghost use Rattle.book.specs.Trees.{pure_pattern, pure_rule};
@@ -41,17 +41,21 @@ pub(crate) fn step_rule(
     let group = Group { entries };
     match rule {
         Rule::Duty(kind, act, deadline) => {
-            let letters = &entries[0].letters;
+            let letters = &group.head().letters;
             step_duty(*kind, act, deadline, place, letters, line, draft)
         }
-        Rule::Trigger(kind, start, end, duty) => match kind {
-            TriggerKind::Each => step_each(start, end, duty, place, group, line, draft),
-            TriggerKind::Once => step_once(start, end, duty, place, group, line, draft),
-        },
-        Rule::Bracket(kind, first, second) => match kind {
-            BracketKind::Else => step_else(first, second, place, group, line, draft),
-            BracketKind::And => step_and(first, second, place, group, line, draft),
-        },
+        Rule::Trigger(TriggerKind::Each, start, end, duty) => {
+            step_each(start, end, duty, place, group, line, draft)
+        }
+        Rule::Trigger(TriggerKind::Once, start, end, duty) => {
+            step_once(start, end, duty, place, group, line, draft)
+        }
+        Rule::Bracket(BracketKind::Else, first, second) => {
+            step_else(first, second, place, group, line, draft)
+        }
+        Rule::Bracket(BracketKind::And, first, second) => {
+            step_and(first, second, place, group, line, draft)
+        }
     }
 }
 
@@ -69,9 +73,9 @@ fn step_once(
     requires { Placed place (trigger Once (pure_pattern start.now) (pure_pattern end.now) (pure_rule duty.now)) }
     ensures { StepsAt (trigger Once (pure_pattern start.now) (pure_pattern end.now) (pure_rule duty.now)) place group.entry.entries.now line.now draft.old result draft.new }
 {
-    if group.entries[0].node == place.node {
-        let letters = &group.entries[0].letters;
-        step_waiting(start, end, duty, place, letters, line, draft)
+    let head = group.head();
+    if head.node == place.node {
+        step_waiting(start, end, duty, place, &head.letters, line, draft)
     } else {
         step_rule(duty, place.inside(1), group.entries, line, draft)
     }
@@ -91,12 +95,13 @@ fn step_each(
     requires { Placed place (trigger Each (pure_pattern start.now) (pure_pattern end.now) (pure_rule duty.now)) }
     ensures { StepsAt (trigger Each (pure_pattern start.now) (pure_pattern end.now) (pure_rule duty.now)) place group.entry.entries.now line.now draft.old result draft.new }
 {
-    let letters = &group.entries[0].letters;
-    let effect = each_effect(start, end, group.entries[0].mark, letters, line);
+    let head = group.head();
+    let letters = &head.letters;
+    let effect = each_effect(start, end, head.mark, letters, line);
     let count = draft.count();
     draft.write(place, ends_each(effect), letters);
     let inner = place.below(1);
-    match step_duties(duty, inner, &group.entries[1..], line, draft) {
+    match step_duties(duty, inner, group.below(), line, draft) {
         Outcome::Breached => {
             draft.cut(count);
             Outcome::Breached
@@ -149,14 +154,15 @@ fn step_else(
     requires { Placed place (bracket Else (pure_rule first.now) (pure_rule second.now)) }
     ensures { StepsAt (bracket Else (pure_rule first.now) (pure_rule second.now)) place group.entry.entries.now line.now draft.old result draft.new }
 {
-    if group.entries[0].node != place.node {
+    let head = group.head();
+    if head.node != place.node {
         let substitute = place.inside(1 + count_nodes(first));
         return step_rule(second, substitute, group.entries, line, draft);
     }
-    let letters = &group.entries[0].letters;
+    let letters = &head.letters;
     let count = draft.count();
     draft.write(place, false, letters);
-    match step_rule(first, place.below(1), &group.entries[1..], line, draft) {
+    match step_rule(first, place.below(1), group.below(), line, draft) {
         Outcome::Satisfied => {
             draft.cut(count);
             Outcome::Satisfied
@@ -184,7 +190,7 @@ fn step_and(
     requires { Placed place (bracket And (pure_rule left.now) (pure_rule right.now)) }
     ensures { StepsAt (bracket And (pure_rule left.now) (pure_rule right.now)) place group.entry.entries.now line.now draft.old result draft.new }
 {
-    let node = group.entries[0].node;
+    let node = group.head().node;
     if node == place.node {
         return step_both(left, right, place, group, line, draft);
     }
@@ -210,10 +216,10 @@ fn step_both(
     requires { Placed place (bracket And (pure_rule left.now) (pure_rule right.now)) }
     ensures { BothStepAt (pure_rule left.now) (pure_rule right.now) place group.entry.entries.now line.now draft.old result draft.new }
 {
-    let (first, second) = split_group(&group.entries[1..]);
+    let (first, second) = split_group(group.below());
     let ahead = 1 + count_nodes(left);
     let count = draft.count();
-    draft.write(place, false, &group.entries[0].letters);
+    draft.write(place, false, &group.head().letters);
     let a = step_rule(left, place.below(1), first, line, draft);
     let b = step_rule(right, place.below(ahead), second, line, draft);
     match sides_of(a, b) {

@@ -1,4 +1,5 @@
 // Steps that go no deeper: a duty, a trigger that waits, an `each` whose duties have stepped.
+// The act or start and the end stay apart: they are two fields of a rule, taken out by one match and handed on.
 ghost use Rattle.std.specs.Prelude.{◌≡◌, T};
 ghost use Rattle.book.specs.Rules.{duty as duty_rule, trigger};
 ghost use Rattle.book.specs.Trees.{pure_pattern, pure_rule};
@@ -109,19 +110,16 @@ pub(crate) fn close_each(
     requires { Placed inner (pure_rule duty.now) }
     ensures { Closes (pure_rule duty.now) inner effect left count draft.old result draft.new }
 {
-    match effect {
-        Effect::Ends => match left {
-            Outcome::Open => Outcome::Open,
-            _ => {
-                draft.cut(count);
-                Outcome::Satisfied
-            }
-        },
-        Effect::Acts(letters) => {
+    match (effect, left) {
+        (Effect::Acts(letters), _) => {
             open_rule(duty, inner, &letters, draft);
             Outcome::Open
         }
-        Effect::Passes => Outcome::Open,
+        (Effect::Ends, Outcome::Satisfied | Outcome::Breached) => {
+            draft.cut(count);
+            Outcome::Satisfied
+        }
+        (Effect::Ends, Outcome::Open) | (Effect::Passes, _) => Outcome::Open,
     }
 }
 

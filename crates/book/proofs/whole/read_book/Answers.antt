@@ -9,7 +9,7 @@ use Rattle.book.proofs.Texts.{answered, whole_book, whole_failed, sound-kept}
 use Rattle.book.proofs.whole.read_book.Goals as goal
 
 pub returns-then-text-gt-BYTES : goal.returns-then-text-gt-BYTES
-returns-then-text-gt-BYTES c = answered c.args.text.now (Err (Faulty _)) (long c.if-text-gt-BYTES.true)
+returns-then-text-gt-BYTES c = rw c.into.ensures (answered c.args.text.now (Err (Faulty _)) (long c.if-text-gt-BYTES.true))
 
 pub returns-in_err-rules : goal.returns-in_err-rules
 returns-in_err-rules c =

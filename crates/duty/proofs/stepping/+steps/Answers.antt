@@ -1,8 +1,12 @@
-use Rattle.std.proofs.Common.{◌≡◌, ℕ, ◌+◌, length, sym, ap, ◌∙◌, subst, arith, true-eqb, false-eqb}
-use Rattle.std.proofs.lemmas.List.{take_rest}
+use Rattle.std.proofs.Common.{◌≡◌, ℕ, ◌+◌, ◌<◌, ◌≤◌, false, [], ◌∷◌, length, sym, ap, ◌∙◌, subst, arith, rules, true-eqb, false-eqb}
 use Rattle.book.specs.Rules as pure
 use Rattle.book.specs.Trees.{pure_pattern, pure_rule}
-use Rattle.duty.specs.Drafts.{Cuts}
+use Rattle.book.specs.declared.terms.TriggerKind.TheVariants.{Each, Once}
+use Rattle.book.specs.declared.terms.BracketKind.TheVariants.{Else, And}
+use Rattle.duty.specs.Drafts.{Adds, Cuts}
+use Rattle.duty.specs.Matching.{effect}
+use Rattle.duty.specs.Open.{each_effect, start, entries}
+use Rattle.duty.specs.Sheet.{entry}
 use Rattle.duty.specs.declared.drafts.Draft.{Draft}
 use Rattle.duty.specs.Stepping.{StepsAt, Closes}
 use Rattle.duty.proofs.ByKind.{some-entry, duty-step, once_waits, once_runs, else_second, else_first, else_met, else_breached, else_open, and_two, and_left, and_right, left_part, right_part, both_stepped, both_open, both-breached, both-met, one_left, one_right, each_watched, each-breached, each_closed}
@@ -17,17 +21,17 @@ back d d' n m e h = subst (λ k. Cuts k d d') e h
 
 pub step_and-returns-then-node-place : goal.step_and-returns-then-node-place
 step_and-returns-then-node-place t c =
-    and_two (pure_rule c.args.left.now) (pure_rule c.args.right.now) c.args.place c.args.group.entries.now c.args.line.now c.args.draft.now c.step_both.new.draft c.step_both.result c.if-node-place.true c.step_both.ensures
+    and_two (pure_rule c.args.left.now) (pure_rule c.args.right.now) c.args.place c.args.group.entries.now c.args.line.now c.args.draft.now c.step_both.new.draft c.step_both.result (ap (λ e. e.node) (sym c.head.ensures) ∙ c.if-node-place.true) c.step_both.ensures
 
 pub step_and-returns-then-node-other : goal.step_and-returns-then-node-other
 step_and-returns-then-node-other t c =
     and_left (pure_rule c.args.left.now) (pure_rule c.args.right.now) c.args.place.node c.args.place.level c.inside-other.result.node c.inside.result c.args.group.entries.now c.args.line.now c.args.draft.now c.step_rule.new.draft c.step_rule.result
-    c.if-node-place.false (c.inside-other.ensures.node ∙ ap (λ x. c.args.place.node + (1 + x)) c.count_nodes.ensures) c.if-node-other.true c.inside.ensures.node c.inside.ensures.level c.step_rule.ensures
+    (λ e. c.if-node-place.false (ap (λ e. e.node) c.head.ensures ∙ e)) (c.inside-other.ensures.node ∙ ap (λ x. c.args.place.node + (1 + x)) c.count_nodes.ensures) (subst (λ e. e.node < c.inside-other.result.node) c.head.ensures c.if-node-other.true) c.inside.ensures.node c.inside.ensures.level c.step_rule.ensures
 
 pub step_and-returns-else-node-other : goal.step_and-returns-else-node-other
 step_and-returns-else-node-other t c =
     and_right (pure_rule c.args.left.now) (pure_rule c.args.right.now) c.args.place.node c.args.place.level c.inside-other.result c.args.group.entries.now c.args.line.now c.args.draft.now c.step_rule-else-node-other.new.draft c.step_rule-else-node-other.result
-    c.if-node-place.false c.if-node-other.false (c.inside-other.ensures.node ∙ ap (λ x. c.args.place.node + (1 + x)) c.count_nodes.ensures) c.inside-other.ensures.level c.step_rule-else-node-other.ensures
+    (λ e. c.if-node-place.false (ap (λ e. e.node) c.head.ensures ∙ e)) (subst (λ e. c.inside-other.result.node ≤ e.node) c.head.ensures c.if-node-other.false) (c.inside-other.ensures.node ∙ ap (λ x. c.args.place.node + (1 + x)) c.count_nodes.ensures) c.inside-other.ensures.level c.step_rule-else-node-other.ensures
 
 pub step_both-returns-in-Both : goal.step_both-returns-in-Both
 step_both-returns-in-Both t c lev f o o' e =
@@ -41,10 +45,10 @@ step_both-returns-in-Both t c lev f o o' e =
     let d₁ = c.write.new.self in
     let d₂ = c.step_rule-a.new.draft in
     let d₃ = c.step_rule-b.new.draft in
-    let ahead = c.below-2.ensures.node ∙ ap (λ x. p.node + (1 + x)) c.count_nodes-ahead.ensures in
-    let w = both_stepped r s p g _ first second (take_rest g 1) c.split_group.ensures.group c.split_group.ensures.rest lev f o o' e l c.below.result c.below-2.result c.args.draft.now d₁ d₂ d₃ c.step_rule-a.result c.step_rule-b.result
-    c.write.ensures c.below.ensures.node c.below.ensures.level ahead c.below-2.ensures.level c.step_rule-a.ensures c.step_rule-b.ensures in
-    both_open r s p c.below.result c.below-2.result l f o o' c.args.draft.now d₁ d₂ d₃ c.step_rule-a.result c.step_rule-b.result w c.sides_of.result c.sides_of.ensures c.in-Both.is
+    let ahead = c.below-3.ensures.node ∙ ap (λ x. p.node + (1 + x)) c.count_nodes-ahead.ensures in
+    let w = both_stepped r s p g _ first second c.below.ensures c.split_group.ensures.group c.split_group.ensures.rest lev f o o' e l c.below-2.result c.below-3.result c.args.draft.now d₁ d₂ d₃ c.step_rule-a.result c.step_rule-b.result
+    c.head.result.now c.head.ensures c.write.ensures c.below-2.ensures.node c.below-2.ensures.level ahead c.below-3.ensures.level c.step_rule-a.ensures c.step_rule-b.ensures in
+    both_open r s p c.below-2.result c.below-3.result l f o o' c.args.draft.now d₁ d₂ d₃ c.step_rule-a.result c.step_rule-b.result w c.sides_of.result c.sides_of.ensures c.in-Both.is
 
 pub step_both-returns-in-Breached : goal.step_both-returns-in-Breached
 step_both-returns-in-Breached t c lev f o o' e =
@@ -58,10 +62,10 @@ step_both-returns-in-Breached t c lev f o o' e =
     let d₁ = c.write.new.self in
     let d₂ = c.step_rule-a.new.draft in
     let d₃ = c.step_rule-b.new.draft in
-    let ahead = c.below-2.ensures.node ∙ ap (λ x. p.node + (1 + x)) c.count_nodes-ahead.ensures in
-    let w = both_stepped r s p g _ first second (take_rest g 1) c.split_group.ensures.group c.split_group.ensures.rest lev f o o' e l c.below.result c.below-2.result c.args.draft.now d₁ d₂ d₃ c.step_rule-a.result c.step_rule-b.result
-    c.write.ensures c.below.ensures.node c.below.ensures.level ahead c.below-2.ensures.level c.step_rule-a.ensures c.step_rule-b.ensures in
-    both-breached r s p c.below.result c.below-2.result l f o o' c.args.draft.now d₁ d₂ d₃ c.step_rule-a.result c.step_rule-b.result w c.sides_of.result c.sides_of.ensures c.cut.new.self (back d₃ c.cut.new.self _ _ c.count-count.ensures c.cut.ensures) c.in-Breached.is
+    let ahead = c.below-3.ensures.node ∙ ap (λ x. p.node + (1 + x)) c.count_nodes-ahead.ensures in
+    let w = both_stepped r s p g _ first second c.below.ensures c.split_group.ensures.group c.split_group.ensures.rest lev f o o' e l c.below-2.result c.below-3.result c.args.draft.now d₁ d₂ d₃ c.step_rule-a.result c.step_rule-b.result
+    c.head.result.now c.head.ensures c.write.ensures c.below-2.ensures.node c.below-2.ensures.level ahead c.below-3.ensures.level c.step_rule-a.ensures c.step_rule-b.ensures in
+    both-breached r s p c.below-2.result c.below-3.result l f o o' c.args.draft.now d₁ d₂ d₃ c.step_rule-a.result c.step_rule-b.result w c.sides_of.result c.sides_of.ensures c.cut.new.self (back d₃ c.cut.new.self _ _ c.count-count.ensures c.cut.ensures) c.in-Breached.is
 
 pub step_both-returns-in-Satisfied : goal.step_both-returns-in-Satisfied
 step_both-returns-in-Satisfied t c lev f o o' e =
@@ -75,10 +79,10 @@ step_both-returns-in-Satisfied t c lev f o o' e =
     let d₁ = c.write.new.self in
     let d₂ = c.step_rule-a.new.draft in
     let d₃ = c.step_rule-b.new.draft in
-    let ahead = c.below-2.ensures.node ∙ ap (λ x. p.node + (1 + x)) c.count_nodes-ahead.ensures in
-    let w = both_stepped r s p g _ first second (take_rest g 1) c.split_group.ensures.group c.split_group.ensures.rest lev f o o' e l c.below.result c.below-2.result c.args.draft.now d₁ d₂ d₃ c.step_rule-a.result c.step_rule-b.result
-    c.write.ensures c.below.ensures.node c.below.ensures.level ahead c.below-2.ensures.level c.step_rule-a.ensures c.step_rule-b.ensures in
-    both-met r s p c.below.result c.below-2.result l f o o' c.args.draft.now d₁ d₂ d₃ c.step_rule-a.result c.step_rule-b.result w c.sides_of.result c.sides_of.ensures c.cut-in-Satisfied.new.self (back d₃ c.cut-in-Satisfied.new.self _ _ c.count-count.ensures c.cut-in-Satisfied.ensures) c.in-Satisfied.is
+    let ahead = c.below-3.ensures.node ∙ ap (λ x. p.node + (1 + x)) c.count_nodes-ahead.ensures in
+    let w = both_stepped r s p g _ first second c.below.ensures c.split_group.ensures.group c.split_group.ensures.rest lev f o o' e l c.below-2.result c.below-3.result c.args.draft.now d₁ d₂ d₃ c.step_rule-a.result c.step_rule-b.result
+    c.head.result.now c.head.ensures c.write.ensures c.below-2.ensures.node c.below-2.ensures.level ahead c.below-3.ensures.level c.step_rule-a.ensures c.step_rule-b.ensures in
+    both-met r s p c.below-2.result c.below-3.result l f o o' c.args.draft.now d₁ d₂ d₃ c.step_rule-a.result c.step_rule-b.result w c.sides_of.result c.sides_of.ensures c.cut-in-Satisfied.new.self (back d₃ c.cut-in-Satisfied.new.self _ _ c.count-count.ensures c.cut-in-Satisfied.ensures) c.in-Satisfied.is
 
 pub step_both-returns-in-Left : goal.step_both-returns-in-Left
 step_both-returns-in-Left t c lev f o o' e =
@@ -92,11 +96,11 @@ step_both-returns-in-Left t c lev f o o' e =
     let d₁ = c.write.new.self in
     let d₂ = c.step_rule-a.new.draft in
     let d₃ = c.step_rule-b.new.draft in
-    let ahead = c.below-2.ensures.node ∙ ap (λ x. p.node + (1 + x)) c.count_nodes-ahead.ensures in
-    let w = both_stepped r s p g _ first second (take_rest g 1) c.split_group.ensures.group c.split_group.ensures.rest lev f o o' e l c.below.result c.below-2.result c.args.draft.now d₁ d₂ d₃ c.step_rule-a.result c.step_rule-b.result
-    c.write.ensures c.below.ensures.node c.below.ensures.level ahead c.below-2.ensures.level c.step_rule-a.ensures c.step_rule-b.ensures in
-    one_left r s p c.below.result c.below-2.result l f o o' c.args.draft.now d₁ d₂ d₃ c.step_rule-a.result c.step_rule-b.result w c.sides_of.result c.sides_of.ensures c.cut-in-Left.new.self (back d₃ c.cut-in-Left.new.self _ _ c.count-count.ensures c.cut-in-Left.ensures) c.in-Left.is c.inside.result c.step_rule.new.draft c.step_rule.result c.inside.ensures.node c.inside.ensures.level
-    (left_part r s p g _ first second (take_rest g 1) c.split_group.ensures.group c.split_group.ensures.rest lev f o o' e l c.inside.result c.cut-in-Left.new.self c.step_rule.new.draft c.step_rule.result c.inside.ensures.node c.step_rule.ensures)
+    let ahead = c.below-3.ensures.node ∙ ap (λ x. p.node + (1 + x)) c.count_nodes-ahead.ensures in
+    let w = both_stepped r s p g _ first second c.below.ensures c.split_group.ensures.group c.split_group.ensures.rest lev f o o' e l c.below-2.result c.below-3.result c.args.draft.now d₁ d₂ d₃ c.step_rule-a.result c.step_rule-b.result
+    c.head.result.now c.head.ensures c.write.ensures c.below-2.ensures.node c.below-2.ensures.level ahead c.below-3.ensures.level c.step_rule-a.ensures c.step_rule-b.ensures in
+    one_left r s p c.below-2.result c.below-3.result l f o o' c.args.draft.now d₁ d₂ d₃ c.step_rule-a.result c.step_rule-b.result w c.sides_of.result c.sides_of.ensures c.cut-in-Left.new.self (back d₃ c.cut-in-Left.new.self _ _ c.count-count.ensures c.cut-in-Left.ensures) c.in-Left.is c.inside.result c.step_rule.new.draft c.step_rule.result c.inside.ensures.node c.inside.ensures.level
+    (left_part r s p g _ first second c.below.ensures c.split_group.ensures.group c.split_group.ensures.rest lev f o o' e l c.inside.result c.cut-in-Left.new.self c.step_rule.new.draft c.step_rule.result c.inside.ensures.node c.step_rule.ensures)
 
 pub step_both-returns-in-Right : goal.step_both-returns-in-Right
 step_both-returns-in-Right t c lev f o o' e =
@@ -110,12 +114,12 @@ step_both-returns-in-Right t c lev f o o' e =
     let d₁ = c.write.new.self in
     let d₂ = c.step_rule-a.new.draft in
     let d₃ = c.step_rule-b.new.draft in
-    let ahead = c.below-2.ensures.node ∙ ap (λ x. p.node + (1 + x)) c.count_nodes-ahead.ensures in
-    let w = both_stepped r s p g _ first second (take_rest g 1) c.split_group.ensures.group c.split_group.ensures.rest lev f o o' e l c.below.result c.below-2.result c.args.draft.now d₁ d₂ d₃ c.step_rule-a.result c.step_rule-b.result
-    c.write.ensures c.below.ensures.node c.below.ensures.level ahead c.below-2.ensures.level c.step_rule-a.ensures c.step_rule-b.ensures in
+    let ahead = c.below-3.ensures.node ∙ ap (λ x. p.node + (1 + x)) c.count_nodes-ahead.ensures in
+    let w = both_stepped r s p g _ first second c.below.ensures c.split_group.ensures.group c.split_group.ensures.rest lev f o o' e l c.below-2.result c.below-3.result c.args.draft.now d₁ d₂ d₃ c.step_rule-a.result c.step_rule-b.result
+    c.head.result.now c.head.ensures c.write.ensures c.below-2.ensures.node c.below-2.ensures.level ahead c.below-3.ensures.level c.step_rule-a.ensures c.step_rule-b.ensures in
     let there = c.inside-in-Right.ensures.node ∙ ap (λ x. p.node + (1 + x)) c.count_nodes-ahead.ensures in
-    one_right r s p c.below.result c.below-2.result l f o o' c.args.draft.now d₁ d₂ d₃ c.step_rule-a.result c.step_rule-b.result w c.sides_of.result c.sides_of.ensures c.cut-in-Right.new.self (back d₃ c.cut-in-Right.new.self _ _ c.count-count.ensures c.cut-in-Right.ensures) c.in-Right.is c.inside-in-Right.result c.step_rule-in-Right.new.draft c.step_rule-in-Right.result there c.inside-in-Right.ensures.level
-    (right_part r s p g _ first second (take_rest g 1) c.split_group.ensures.group c.split_group.ensures.rest lev f o o' e l c.inside-in-Right.result c.cut-in-Right.new.self c.step_rule-in-Right.new.draft c.step_rule-in-Right.result there c.step_rule-in-Right.ensures)
+    one_right r s p c.below-2.result c.below-3.result l f o o' c.args.draft.now d₁ d₂ d₃ c.step_rule-a.result c.step_rule-b.result w c.sides_of.result c.sides_of.ensures c.cut-in-Right.new.self (back d₃ c.cut-in-Right.new.self _ _ c.count-count.ensures c.cut-in-Right.ensures) c.in-Right.is c.inside-in-Right.result c.step_rule-in-Right.new.draft c.step_rule-in-Right.result there c.inside-in-Right.ensures.level
+    (right_part r s p g _ first second c.below.ensures c.split_group.ensures.group c.split_group.ensures.rest lev f o o' e l c.inside-in-Right.result c.cut-in-Right.new.self c.step_rule-in-Right.new.draft c.step_rule-in-Right.result there c.step_rule-in-Right.ensures)
 
 pub step_duties-returns-then-stands_at : goal.step_duties-returns-then-stands_at
 step_duties-returns-then-stands_at t c =
@@ -154,7 +158,7 @@ step_each-returns-in-Breached t c lev o e =
     let g = c.args.group.entries.now in
     let l = c.args.line.now in
     each-breached p q s c.args.place.node c.args.place.level c.below-inner.result g l c.args.draft.now c.write.new.self c.step_duties.new.draft c.cut.new.self _ o c.write.ensures
-    (each_watched p q s c.args.place.node c.below-inner.result g _ l c.write.new.self c.step_duties.new.draft _ (take_rest g 1) c.below-inner.ensures.node c.in-Breached.ensures lev o e) (back c.step_duties.new.draft c.cut.new.self _ _ c.count-count.ensures c.cut.ensures)
+    (each_watched p q s c.args.place.node c.below-inner.result g _ l c.write.new.self c.step_duties.new.draft _ c.below.ensures c.below-inner.ensures.node c.in-Breached.ensures lev o e) (back c.step_duties.new.draft c.cut.new.self _ _ c.count-count.ensures c.cut.ensures)
 
 pub step_each-returns-in_default : goal.step_each-returns-in_default
 step_each-returns-in_default t c lev o e =
@@ -164,15 +168,15 @@ step_each-returns-in_default t c lev o e =
     let g = c.args.group.entries.now in
     let l = c.args.line.now in
     each_closed p q s c.args.place.node c.args.place.level c.below-inner.result g l c.args.draft.now c.write.new.self c.step_duties.new.draft c.close_each.new.draft c.each_effect-effect.result c.ends_each.result c.step_duties.result c.close_each.result o
-    c.each_effect-effect.ensures c.ends_each.ensures c.write.ensures c.below-inner.ensures.node c.below-inner.ensures.level
-    (each_watched p q s c.args.place.node c.below-inner.result g _ l c.write.new.self c.step_duties.new.draft _ (take_rest g 1) c.below-inner.ensures.node c.step_duties.ensures lev o e)
+    (subst (λ h. c.each_effect-effect.result ≡ each_effect h.mark (effect p q h.letters l)) c.head-head.ensures c.each_effect-effect.ensures) c.ends_each.ensures (subst (λ h. Adds c.args.draft.now c.write.new.self (entry c.args.place.node c.args.place.level c.ends_each.result h.letters ∷ [])) c.head-head.ensures c.write.ensures) c.below-inner.ensures.node c.below-inner.ensures.level
+    (each_watched p q s c.args.place.node c.below-inner.result g _ l c.write.new.self c.step_duties.new.draft _ c.below.ensures c.below-inner.ensures.node c.step_duties.ensures lev o e)
     c.in_default.not-Breached
     (subst (λ k. Closes s c.below-inner.result c.each_effect-effect.result c.step_duties.result k c.step_duties.new.draft c.close_each.result c.close_each.new.draft) c.count-count.ensures c.close_each.ensures)
 
-pub step_else-returns-then-group-place : goal.step_else-returns-then-group-place
-step_else-returns-then-group-place t c =
+pub step_else-returns-then-head-place : goal.step_else-returns-then-head-place
+step_else-returns-then-head-place t c =
     else_second (pure_rule c.args.first.now) (pure_rule c.args.second.now) c.args.place.node c.args.place.level c.inside-substitute.result c.args.group.entries.now c.args.line.now c.args.draft.now c.step_rule.new.draft c.step_rule.result
-    c.if-group-place.true (c.inside-substitute.ensures.node ∙ ap (λ x. c.args.place.node + (1 + x)) c.count_nodes.ensures) c.inside-substitute.ensures.level c.step_rule.ensures
+    (λ e. c.if-head-place.true (ap (λ e. e.node) c.head-head.ensures ∙ e)) (c.inside-substitute.ensures.node ∙ ap (λ x. c.args.place.node + (1 + x)) c.count_nodes.ensures) c.inside-substitute.ensures.level c.step_rule.ensures
 
 pub step_else-returns-in-Satisfied : goal.step_else-returns-in-Satisfied
 step_else-returns-in-Satisfied t c lev o e =
@@ -183,7 +187,7 @@ step_else-returns-in-Satisfied t c lev o e =
     let g = c.args.group.entries.now in
     let l = c.args.line.now in
     else_met r s n L c.below.result g l c.args.draft.now c.write.new.self c.step_rule-2.new.draft c.cut.new.self _ o c.write.ensures
-    (else_first r s n L c.below.result g _ l c.write.new.self c.step_rule-2.new.draft _ c.if-group-place.false (take_rest g 1) c.below.ensures.node c.in-Satisfied.ensures lev o e) (back c.step_rule-2.new.draft c.cut.new.self _ _ c.count-count.ensures c.cut.ensures)
+    (else_first r s n L c.below.result g _ l c.write.new.self c.step_rule-2.new.draft _ (ap (λ e. e.node) (sym c.head-head.ensures) ∙ c.if-head-place.false) c.below-2.ensures c.below.ensures.node c.in-Satisfied.ensures lev o e) (back c.step_rule-2.new.draft c.cut.new.self _ _ c.count-count.ensures c.cut.ensures)
 
 pub step_else-returns-in-Breached : goal.step_else-returns-in-Breached
 step_else-returns-in-Breached t c lev o e =
@@ -194,8 +198,8 @@ step_else-returns-in-Breached t c lev o e =
     let g = c.args.group.entries.now in
     let l = c.args.line.now in
     else_breached r s n L c.below.result c.inside-substitute-in-Breached.result g l c.args.draft.now c.write.new.self c.step_rule-2.new.draft c.cut-in-Breached.new.self c.open_rule.new.draft _ o c.write.ensures
-    (else_first r s n L c.below.result g _ l c.write.new.self c.step_rule-2.new.draft _ c.if-group-place.false (take_rest g 1) c.below.ensures.node c.in-Breached.ensures lev o e) (back c.step_rule-2.new.draft c.cut-in-Breached.new.self _ _ c.count-count.ensures c.cut-in-Breached.ensures)
-    (c.inside-substitute-in-Breached.ensures.node ∙ ap (λ x. n + (1 + x)) c.count_nodes-in-Breached.ensures) c.inside-substitute-in-Breached.ensures.level c.open_rule.ensures
+    (else_first r s n L c.below.result g _ l c.write.new.self c.step_rule-2.new.draft _ (ap (λ e. e.node) (sym c.head-head.ensures) ∙ c.if-head-place.false) c.below-2.ensures c.below.ensures.node c.in-Breached.ensures lev o e) (back c.step_rule-2.new.draft c.cut-in-Breached.new.self _ _ c.count-count.ensures c.cut-in-Breached.ensures)
+    (c.inside-substitute-in-Breached.ensures.node ∙ ap (λ x. n + (1 + x)) c.count_nodes-in-Breached.ensures) c.inside-substitute-in-Breached.ensures.level (subst (λ h. Adds c.cut-in-Breached.new.self c.open_rule.new.draft (entries s c.inside-substitute-in-Breached.result.node c.inside-substitute-in-Breached.result.level (start s h.letters))) c.head-head.ensures c.open_rule.ensures)
 
 pub step_else-returns-in-Open : goal.step_else-returns-in-Open
 step_else-returns-in-Open t c lev o e =
@@ -205,16 +209,16 @@ step_else-returns-in-Open t c lev o e =
     let L = c.args.place.level in
     let g = c.args.group.entries.now in
     let l = c.args.line.now in
-    else_open r s n L c.below.result g l c.args.draft.now c.write.new.self c.step_rule-2.new.draft o c.write.ensures
-    (else_first r s n L c.below.result g _ l c.write.new.self c.step_rule-2.new.draft _ c.if-group-place.false (take_rest g 1) c.below.ensures.node c.in-Open.ensures lev o e) c.below.ensures.node c.below.ensures.level
+    else_open r s n L c.below.result g l c.args.draft.now c.write.new.self c.step_rule-2.new.draft o (subst (λ h. Adds c.args.draft.now c.write.new.self (entry n L false h.letters ∷ [])) c.head-head.ensures c.write.ensures)
+    (else_first r s n L c.below.result g _ l c.write.new.self c.step_rule-2.new.draft _ (ap (λ e. e.node) (sym c.head-head.ensures) ∙ c.if-head-place.false) c.below-2.ensures c.below.ensures.node c.in-Open.ensures lev o e) c.below.ensures.node c.below.ensures.level
 
-pub step_once-returns-then-group-place : goal.step_once-returns-then-group-place
-step_once-returns-then-group-place t c =
-    once_waits (pure_pattern c.args.start.now) (pure_pattern c.args.end.now) (pure_rule c.args.duty.now) c.args.place.node c.args.place.level c.args.group.entries.now c.args.line.now c.args.draft.now c.step_waiting.new.draft c.step_waiting.result c.if-group-place.true c.step_waiting.ensures
+pub step_once-returns-then-head-place : goal.step_once-returns-then-head-place
+step_once-returns-then-head-place t c =
+    once_waits (pure_pattern c.args.start.now) (pure_pattern c.args.end.now) (pure_rule c.args.duty.now) c.args.place.node c.args.place.level c.args.group.entries.now c.head-head.result.now c.args.line.now c.args.draft.now c.step_waiting.new.draft c.step_waiting.result c.head-head.ensures c.if-head-place.true c.step_waiting.ensures
 
-pub step_once-returns-else-group-place : goal.step_once-returns-else-group-place
-step_once-returns-else-group-place t c =
-    once_runs (pure_pattern c.args.start.now) (pure_pattern c.args.end.now) (pure_rule c.args.duty.now) c.args.place.node c.args.place.level c.inside.result c.args.group.entries.now c.args.line.now c.args.draft.now c.step_rule.new.draft c.step_rule.result c.if-group-place.false c.inside.ensures.node c.inside.ensures.level c.step_rule.ensures
+pub step_once-returns-else-head-place : goal.step_once-returns-else-head-place
+step_once-returns-else-head-place t c =
+    once_runs (pure_pattern c.args.start.now) (pure_pattern c.args.end.now) (pure_rule c.args.duty.now) c.args.place.node c.args.place.level c.inside.result c.args.group.entries.now c.args.line.now c.args.draft.now c.step_rule.new.draft c.step_rule.result (λ e. c.if-head-place.false (ap (λ e. e.node) c.head-head.ensures ∙ e)) c.inside.ensures.node c.inside.ensures.level c.step_rule.ensures
 
 pub step_rule-returns-then-is_empty : goal.step_rule-returns-then-is_empty
 step_rule-returns-then-is_empty t c lev o e =
@@ -225,28 +229,36 @@ step_rule-returns-then-is_empty t c lev o e =
 pub step_rule-returns-in-Duty : goal.step_rule-returns-in-Duty
 step_rule-returns-in-Duty t c =
     subst (λ r. StepsAt r c.args.place c.args.entries.now c.args.line.now c.args.draft.now c.step_duty.result c.step_duty.new.draft) (sym (ap pure_rule c.in-Duty.is))
-    (duty-step c.in-Duty.kind (pure_pattern c.in-Duty.act) (pure_pattern c.in-Duty.deadline) c.args.place.node c.args.place.level c.args.entries.now c.args.line.now c.args.draft.now c.step_duty.new.draft c.step_duty.result c.step_duty.ensures)
+    (duty-step c.in-Duty.kind (pure_pattern c.in-Duty.act) (pure_pattern c.in-Duty.deadline) c.args.place.node c.args.place.level c.args.entries.now c.head.result.now c.args.line.now c.args.draft.now c.step_duty.new.draft c.step_duty.result c.head.ensures c.step_duty.ensures)
 
-pub step_rule-returns-in-Each : goal.step_rule-returns-in-Each
-step_rule-returns-in-Each t c =
+pub step_rule-returns-in-Trigger-Each-default-default-default : goal.step_rule-returns-in-Trigger-Each-default-default-default
+step_rule-returns-in-Trigger-Each-default-default-default t c =
+    let at = c.in-Trigger-Each-default-default-default in
+    let kind : at.field-0 ≡ Each = search rules in
     subst (λ r. StepsAt r c.args.place c.args.entries.now c.args.line.now c.args.draft.now c.step_each.result c.step_each.new.draft)
-    (sym (ap pure_rule c.in-Trigger.is ∙ (λ i. pure.trigger (c.in-Each.is i) (pure_pattern c.in-Trigger.start) (pure_pattern c.in-Trigger.end) (pure_rule (sym c.deref.ensures i)))))
+    (sym (ap pure_rule at.is ∙ (λ i. pure.trigger (kind i) (pure_pattern at.start) (pure_pattern at.end) (pure_rule (sym c.deref.ensures i)))))
     c.step_each.ensures
 
-pub step_rule-returns-in-Once : goal.step_rule-returns-in-Once
-step_rule-returns-in-Once t c =
+pub step_rule-returns-in-Trigger-Once-default-default-default : goal.step_rule-returns-in-Trigger-Once-default-default-default
+step_rule-returns-in-Trigger-Once-default-default-default t c =
+    let at = c.in-Trigger-Once-default-default-default in
+    let kind : at.field-0 ≡ Once = search rules in
     subst (λ r. StepsAt r c.args.place c.args.entries.now c.args.line.now c.args.draft.now c.step_once.result c.step_once.new.draft)
-    (sym (ap pure_rule c.in-Trigger.is ∙ (λ i. pure.trigger (c.in-Once.is i) (pure_pattern c.in-Trigger.start) (pure_pattern c.in-Trigger.end) (pure_rule (sym c.deref-in-Once.ensures i)))))
+    (sym (ap pure_rule at.is ∙ (λ i. pure.trigger (kind i) (pure_pattern at.start) (pure_pattern at.end) (pure_rule (sym c.deref-in-Trigger-Once-default-default-default.ensures i)))))
     c.step_once.ensures
 
-pub step_rule-returns-in-Else : goal.step_rule-returns-in-Else
-step_rule-returns-in-Else t c =
+pub step_rule-returns-in-Bracket-Else-default-default : goal.step_rule-returns-in-Bracket-Else-default-default
+step_rule-returns-in-Bracket-Else-default-default t c =
+    let at = c.in-Bracket-Else-default-default in
+    let kind : at.field-0 ≡ Else = search rules in
     subst (λ r. StepsAt r c.args.place c.args.entries.now c.args.line.now c.args.draft.now c.step_else.result c.step_else.new.draft)
-    (sym (ap pure_rule c.in-Bracket.is ∙ (λ i. pure.bracket (c.in-Else.is i) (pure_rule (sym c.deref-in-Else.ensures i)) (pure_rule (sym c.deref-in-Else-2.ensures i)))))
+    (sym (ap pure_rule at.is ∙ (λ i. pure.bracket (kind i) (pure_rule (sym c.deref-in-Bracket-Else-default-default.ensures i)) (pure_rule (sym c.deref-in-Bracket-Else-default-default-2.ensures i)))))
     c.step_else.ensures
 
-pub step_rule-returns-in-And : goal.step_rule-returns-in-And
-step_rule-returns-in-And t c =
+pub step_rule-returns-in-Bracket-And-default-default : goal.step_rule-returns-in-Bracket-And-default-default
+step_rule-returns-in-Bracket-And-default-default t c =
+    let at = c.in-Bracket-And-default-default in
+    let kind : at.field-0 ≡ And = search rules in
     subst (λ r. StepsAt r c.args.place c.args.entries.now c.args.line.now c.args.draft.now c.step_and.result c.step_and.new.draft)
-    (sym (ap pure_rule c.in-Bracket.is ∙ (λ i. pure.bracket (c.in-And.is i) (pure_rule (sym c.deref-in-And.ensures i)) (pure_rule (sym c.deref-in-And-2.ensures i)))))
+    (sym (ap pure_rule at.is ∙ (λ i. pure.bracket (kind i) (pure_rule (sym c.deref-in-Bracket-And-default-default.ensures i)) (pure_rule (sym c.deref-in-Bracket-And-default-default-2.ensures i)))))
     c.step_and.ensures

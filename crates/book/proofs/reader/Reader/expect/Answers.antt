@@ -1,19 +1,11 @@
-use Rattle.std.proofs.Common.{◌≡◌, ◌≢◌, true, false, sym, refl, rules}
+use Rattle.std.proofs.Common.{sym, refl}
 use Rattle.std.proofs.lemmas.Result.{err_from_is_err_and}
-use Rattle.book.specs.contracts.terminals.TerminalPartialEq.TheImpl as terminal_eq
-use Rattle.book.specs.declared.terminals.Terminal.{Terminal}
 use Rattle.book.specs.Grammar.{mark}
 use Rattle.book.specs.Readers.{only_items}
 use Rattle.book.specs.Reading.{any}
 use Rattle.book.proofs.Compose.{one, bad-first, wrong_first}
+use Rattle.book.proofs.Equal.{same, differ}
 use Rattle.book.proofs.reader.Reader.expect.Goals as goal
-
--- what `==` says
-same : (a b : Terminal) → (terminal_eq.ghosts).eq a b ≡ true → a ≡ b
-same a b h = search rules
-
-differ : (a b : Terminal) → (terminal_eq.ghosts).eq a b ≡ false → a ≢ b
-differ a b h = search rules
 
 pub returns-in_err-seen : goal.returns-in_err-seen
 returns-in_err-seen c =

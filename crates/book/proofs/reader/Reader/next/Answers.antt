@@ -19,8 +19,8 @@ pub returns : goal.returns
 returns c =
     let nx = c.next-found.ensures in
     let found = c.next-found.result in
-    let was : c.terminal_of.result ≡ Ok c.in_ok-terminal.terminal = search rules in
-    let e : Ok c.in_ok-terminal.terminal ≡ meaning (stretch_of found.token) = sym was ∙ c.terminal_of.ensures in (
+    let was : c.try_from.result ≡ Ok c.in_ok-terminal.terminal = search rules in
+    let e : Ok c.in_ok-terminal.terminal ≡ meaning (stretch_of found.token) = sym was ∙ c.try_from.ensures in (
       meanings nx.rest,
       ap meanings nx.split ∙ ap (λ g. lexeme found.place g ∷ meanings nx.rest) (sym e),
       λ f. ap meanings (nx.goes (goes (stretch_of found.token) c.in_ok-terminal.terminal e f)),

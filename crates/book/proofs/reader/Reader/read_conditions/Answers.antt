@@ -65,6 +65,6 @@ returns-in_default c =
     let here = coming c.loop-conditions.self in
     let told = c.in_ok-condition.ensures in
     let e = c.fault.result in
-    c.loop-conditions.invariant.whole (Err (Faulty e)) here xs (move_number k _ s here (Err (Faulty e)) here xs xs (ap (λ m. m + 1) c.len-number.ensures)
+    rw c.into.ensures (c.loop-conditions.invariant.whole (Err (Faulty e)) here xs (move_number k _ s here (Err (Faulty e)) here xs xs (ap (λ m. m + 1) c.len-number.ensures)
     (rw c.fault.ensures (wrong (Condition × List Condition) (conditions_closed k s) (any (Condition × List Condition)) (condition_items k s a) (a, []) (mark CloseSquare ∷ []) refl _ _ told.0.rest c.in_ok-condition.after told.0.reads refl
-    (λ y u more f e. inv_after k s a c.in_ok-condition.after.terminal told.1 c.in_default.not-CloseSquare c.in_default.not-Comma y.0 y.1 u more e))))
+    (λ y u more f e. inv_after k s a c.in_ok-condition.after.terminal told.1 c.in_default.not-CloseSquare c.in_default.not-Comma y.0 y.1 u more e)))))

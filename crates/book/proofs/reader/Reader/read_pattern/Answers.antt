@@ -28,7 +28,7 @@ returns-in-Never c =
 pub returns-in_default : goal.returns-in_default
 returns-in_default c =
     let nx = c.in_ok-seen.ensures in
-    rw c.fault.ensures (wrong_first Pattern (pattern_items c.args.bound) (any Pattern) never _ nx.0 c.in_ok-seen.seen nx.1
+    rw (c.into.ensures, c.fault.ensures) (wrong_first Pattern (pattern_items c.args.bound) (any Pattern) never _ nx.0 c.in_ok-seen.seen nx.1
     (λ x u more f e. pattern_first c.args.bound x c.in_ok-seen.seen.terminal u more e c.in_default.not-Never c.in_default.not-OpenSquare))
 
 pub returns-in_err-ending-in-OpenSquare : goal.returns-in_err-ending-in-OpenSquare
