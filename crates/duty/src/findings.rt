@@ -9,7 +9,7 @@ use std::alloc::{AllocError, Global};
 
 // The verdict of each rule, in order, and the sheet of what is open.
 #[derive(Drop)]
-pub struct Findings {
+pub(crate) struct Findings {
     pub verdicts: Vec<Verdict>,
     pub sheet: Draft,
 }

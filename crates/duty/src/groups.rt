@@ -6,7 +6,7 @@ use crate::entries::Entry;
 
 // The entries of a rule that has some.
 #[derive(Clone, Copy)]
-pub struct Group<'a> {
+pub(crate) struct Group<'a> {
     pub entries: &'a [Entry],
     ghost some: { 0 < length entries.now },
 }

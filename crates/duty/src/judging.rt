@@ -30,7 +30,7 @@ const RULE: Place = Place {
 
 // A rule's verdict after a line, and the entries of the rules after it.
 #[derive(Clone, Copy)]
-pub struct Judged<'a> {
+pub(crate) struct Judged<'a> {
     pub verdict: Verdict,
     pub rest: &'a [Entry],
 }

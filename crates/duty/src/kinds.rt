@@ -16,7 +16,7 @@ use std::alloc::{AllocError, Global};
 
 // A set of kinds, which go from 0 to 999.
 #[derive(Drop)]
-pub struct Kinds {
+pub(crate) struct Kinds {
     listed: [bool; 1000],
 }
 

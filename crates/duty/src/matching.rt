@@ -16,7 +16,7 @@ use feed::lines::Line;
 // What a line does to a rule that stands between two patterns: the second ends it, the first acts, with the
 // letters that it then gives, or neither matches.
 #[derive(Clone, Copy)]
-pub enum Effect {
+pub(crate) enum Effect {
     Ends,
     Acts(Letters),
     Passes,

@@ -3,7 +3,7 @@ ghost use Rattle.std.specs.Prelude.{◌≡◌};
 ghost use Rattle.duty.specs.Stepping.{sides};
 
 #[derive(Clone, Copy)]
-pub enum Outcome {
+pub(crate) enum Outcome {
     Satisfied,
     Breached,
     Open,
@@ -11,7 +11,7 @@ pub enum Outcome {
 
 // What a line leaves of an `and`: a decision, both sides open, or one open and the other satisfied.
 #[derive(Clone, Copy)]
-pub enum Sides {
+pub(crate) enum Sides {
     Breached,
     Satisfied,
     Both,

@@ -4,7 +4,7 @@ ghost use Rattle.std.specs.Prelude.{◌≡◌, ◌+◌, ◌-◌, ◌<◌, ◌≤
 // The number of the rule's own node, the level of its entries, and how many nodes may still stand inside one
 // another from there on.
 #[derive(Clone, Copy)]
-pub struct Place {
+pub(crate) struct Place {
     pub node: u8,
     pub level: u8,
     pub budget: u8,
