@@ -23,7 +23,7 @@ pub(crate) enum Ending {
 }
 
 impl Ending {
-    // Which ending a terminal is.
+    // Which ending a terminal is. No `TryFrom`: all other terminals have one reason, so an error says no more than `None`.
     fn of(terminal: Terminal) -> Option<Ending>
         ensures { MatchOption result ((b : Ending) → terminal ≢ closer b) (λ b. terminal ≡ closer b) }
     {

@@ -60,6 +60,7 @@ fn judge_rule<'a>(
     requires covered { Covers kinds.now (pure_rule rule.now) }
     ensures { Judges (pure_rule rule.now) verdict entries.now line.now number draft.old result draft.new }
 {
+    // (By a pattern: with `!=` the search gives up at its limit where a decided verdict is handed on.)
     let Verdict::Pending = verdict else {
         return Judged {
             verdict,

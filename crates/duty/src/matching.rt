@@ -167,10 +167,7 @@ pub(crate) fn effect_of(act: &Pattern, end: &Pattern, line: &Line, letters: &Let
     if matched(end, line, letters).is_some() {
         return Effect::Ends;
     }
-    match matched(act, line, letters) {
-        Some(enlarged) => Effect::Acts(enlarged),
-        None => Effect::Passes,
-    }
+    matched(act, line, letters).map_or(Effect::Passes, Effect::Acts)
 }
 
 // A pattern that does not match this line under any letters, since a number of it is not in the line.
