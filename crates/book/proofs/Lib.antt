@@ -12,3 +12,4 @@ pub mod Either
 pub mod Bounds
 pub mod Counting
 pub mod Equal
+pub mod Lookups

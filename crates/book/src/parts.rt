@@ -89,9 +89,9 @@ impl Reader<'_> {
         let Part::Number(number) = lead else {
             return Ok((lead, seen));
         };
-        if seen.terminal != Terminal::Times {
+        let Terminal::Times = seen.terminal else {
             return Ok((lead, seen));
-        }
+        };
         let letter = self.read_letter(scope)?;
         let after = self.next()?;
         Ok((Part::Product(number, letter), after))
@@ -102,13 +102,14 @@ impl Reader<'_> {
         ensures { ToldNext Sum (sum_items scope.number scope.bound) SumStops (coming self.old) result (coming self.new) }
     {
         let (first, plus) = self.read_part(scope)?;
-        if plus.terminal != Terminal::Plus {
+        // (By patterns, here and in a part: `!=` reads the terminal back from memory that was just written in parts.)
+        let Terminal::Plus = plus.terminal else {
             return Ok((Sum::One(first), plus));
-        }
+        };
         let (second, more) = self.read_part(scope)?;
-        if more.terminal != Terminal::Plus {
+        let Terminal::Plus = more.terminal else {
             return Ok((Sum::Two(first, second), more));
-        }
+        };
         let (third, after) = self.read_part(scope)?;
         Ok((Sum::Three(first, second, third), after))
     }

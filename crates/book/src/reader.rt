@@ -39,8 +39,11 @@ impl<'a> Reader<'a> {
     {
         let found = cursor::next(&mut self.cursor);
         let place = found.place;
-        let terminal = Terminal::try_from(found.token).map_err(|reason| Fault { reason, place })?;
-        Ok(Seen { terminal, place })
+        // (No `map_err` with `?`: the terminal would be written in parts and read back whole, and a token takes longer.)
+        match Terminal::try_from(found.token) {
+            Ok(terminal) => Ok(Seen { terminal, place }),
+            Err(reason) => Err(Fault { reason, place }),
+        }
     }
 
     // The one terminal that may stand here.

@@ -1,8 +1,5 @@
 // What the tokens of a text mean.
 ghost use Rattle.std.specs.Prelude.{◌≡◌};
-ghost use Rattle.std.specs.Option.{option_map};
-ghost use Rattle.std.specs.List.{find};
-ghost use Rattle.std.specs.Str.{bytes_eq};
 ghost use Rattle.tokens.specs.Tokens.{stretch_of};
 ghost use Rattle.book.specs.Text.{word_of, number_of, leading_zero, meaning};
 
@@ -15,47 +12,40 @@ use tokens::token::Token;
 // The largest number that a book may have.
 const LARGEST: u32 = 9_999_999;
 
-// The words of the grammar, the names of the fields, and the letters.
-const WORDS: [(&[u8], Terminal); 25] = [
-    (b"must", Terminal::Duty(DutyKind::Must)),
-    (b"mustnot", Terminal::Duty(DutyKind::MustNot)),
-    (b"before", Terminal::Before),
-    (b"each", Terminal::Trigger(TriggerKind::Each)),
-    (b"once", Terminal::Trigger(TriggerKind::Once)),
-    (b"until", Terminal::Until),
-    (b"then", Terminal::Then),
-    (b"else", Terminal::Joint(BracketKind::Else)),
-    (b"and", Terminal::Joint(BracketKind::And)),
-    (b"never", Terminal::Never),
-    (b"if", Terminal::If),
-    (b"time", Terminal::Named(Field::Time)),
-    (b"kind", Terminal::Named(Field::Kind)),
-    (b"machine", Terminal::Named(Field::Machine)),
-    (b"crew", Terminal::Named(Field::Crew)),
-    (b"run", Terminal::Named(Field::Run)),
-    (b"reading", Terminal::Named(Field::Reading)),
-    (b"A", Terminal::Lettered(Letter::A)),
-    (b"B", Terminal::Lettered(Letter::B)),
-    (b"C", Terminal::Lettered(Letter::C)),
-    (b"D", Terminal::Lettered(Letter::D)),
-    (b"E", Terminal::Lettered(Letter::E)),
-    (b"F", Terminal::Lettered(Letter::F)),
-    (b"G", Terminal::Lettered(Letter::G)),
-    (b"H", Terminal::Lettered(Letter::H)),
-];
-
-// The terminal of a word in a table.
-fn look_up(table: &[(&[u8], Terminal)], w: &[u8]) -> Option<Terminal>
-    ensures { result ≡ option_map (λ e. e.1) (find (λ e. bytes_eq e.0.now w.now) table.entry.now) }
-{
-    table.iter().find(|entry| entry.0 == w).map(|entry| entry.1)
-}
-
-// What a word means.
+// What a word means: a word of the grammar, the name of a field, or a letter. (One match, and no table to walk: a letter
+// would be found behind all the words.)
+#[tactic(auto, unfolding(crate::specs::Text::word_of))]
 fn word_terminal(w: &[u8]) -> Result<Terminal, Reason>
     ensures { result ≡ word_of w.now }
 {
-    look_up(&WORDS, w).ok_or(Reason::NoToken)
+    Ok(match w {
+        b"must" => Terminal::Duty(DutyKind::Must),
+        b"mustnot" => Terminal::Duty(DutyKind::MustNot),
+        b"before" => Terminal::Before,
+        b"each" => Terminal::Trigger(TriggerKind::Each),
+        b"once" => Terminal::Trigger(TriggerKind::Once),
+        b"until" => Terminal::Until,
+        b"then" => Terminal::Then,
+        b"else" => Terminal::Joint(BracketKind::Else),
+        b"and" => Terminal::Joint(BracketKind::And),
+        b"never" => Terminal::Never,
+        b"if" => Terminal::If,
+        b"time" => Terminal::Named(Field::Time),
+        b"kind" => Terminal::Named(Field::Kind),
+        b"machine" => Terminal::Named(Field::Machine),
+        b"crew" => Terminal::Named(Field::Crew),
+        b"run" => Terminal::Named(Field::Run),
+        b"reading" => Terminal::Named(Field::Reading),
+        b"A" => Terminal::Lettered(Letter::A),
+        b"B" => Terminal::Lettered(Letter::B),
+        b"C" => Terminal::Lettered(Letter::C),
+        b"D" => Terminal::Lettered(Letter::D),
+        b"E" => Terminal::Lettered(Letter::E),
+        b"F" => Terminal::Lettered(Letter::F),
+        b"G" => Terminal::Lettered(Letter::G),
+        b"H" => Terminal::Lettered(Letter::H),
+        _ => return Err(Reason::NoToken),
+    })
 }
 
 // Whether there are more digits than one, the first of them 0.

@@ -89,20 +89,20 @@ module _ (bs rest : List ℕ) (n : ℕ) (q : rest ≡ drop n bs) (dark_there : i
   some = omega (arith, ap length q, length-drop n bs)
 
   -- a run of bytes of one kind
-  run_step : (kind : ℕ → Bool) (made : List ℕ → Stretch) (m : ℕ) → m ≡ prefix_len kind rest → kind (get_or rest 0 0) ≡ true → extent (get_or rest 0 0) (drop 1 rest) ≡ 1 + prefix_len kind (drop 1 rest) → ((w : List ℕ) → stretch_on (get_or rest 0 0) w ≡ made w) →
+  run_step : (kind : ℕ → Bool) (made : List ℕ → Stretch) (m : ℕ) → m ≡ 1 + prefix_len kind (drop 1 rest) → kind (get_or rest 0 0) ≡ true → extent (get_or rest 0 0) (drop 1 rest) ≡ 1 + prefix_len kind (drop 1 rest) → ((w : List ℕ) → stretch_on (get_or rest 0 0) w ≡ made w) →
       tokens_at bs n ≡ placed n (made (take m rest)) ∷ tokens_at bs (n + length (take m rest))
   run_step kind made m run first x is =
       let more : prefix_len kind rest ≡ 1 + prefix_len kind (drop 1 rest) = prefix_len-drop_yes kind rest 0 0 some first in
-      let le : m ≤ length rest = omega (arith, prefix_len-le-length kind rest) in
+      let le : m ≤ length rest = omega (arith, more, prefix_len-le-length kind rest) in
       let long : length (take m rest) ≡ m = length-take-le m rest le in
-      stretch bs rest n m q dark (x ∙ sym more ∙ sym run) (omega arith) le
+      stretch bs rest n m q dark (x ∙ sym run) (omega arith) le
       ∙ ap (λ s. placed n s ∷ tokens_at bs (n + m)) (is (take m rest))
       ∙ ap (λ k. placed n (made (take m rest)) ∷ tokens_at bs (n + k)) (sym long)
 
-  pub word_step : (m : ℕ) → m ≡ prefix_len is_letter rest → is_letter (get_or rest 0 0) ≡ true → tokens_at bs n ≡ placed n (word (take m rest)) ∷ tokens_at bs (n + length (take m rest))
+  pub word_step : (m : ℕ) → m ≡ 1 + prefix_len is_letter (drop 1 rest) → is_letter (get_or rest 0 0) ≡ true → tokens_at bs n ≡ placed n (word (take m rest)) ∷ tokens_at bs (n + length (take m rest))
   word_step m run letter = run_step is_letter word m run letter (cond-true _ _ _ letter) (λ w. cond-true _ _ _ letter)
 
-  pub number_step : (m : ℕ) → m ≡ prefix_len is_digit rest → is_letter (get_or rest 0 0) ≡ false → is_digit (get_or rest 0 0) ≡ true → tokens_at bs n ≡ placed n (number (take m rest)) ∷ tokens_at bs (n + length (take m rest))
+  pub number_step : (m : ℕ) → m ≡ 1 + prefix_len is_digit (drop 1 rest) → is_letter (get_or rest 0 0) ≡ false → is_digit (get_or rest 0 0) ≡ true → tokens_at bs n ≡ placed n (number (take m rest)) ∷ tokens_at bs (n + length (take m rest))
   number_step m run no_letter digit =
       run_step is_digit number m run digit (cond-false _ _ _ no_letter ∙ cond-true _ _ _ digit) (λ w. cond-false _ _ _ no_letter ∙ cond-true _ _ _ digit)
 

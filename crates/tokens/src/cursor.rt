@@ -53,23 +53,26 @@ fn skip_blanks(text: &[u8], from: usize) -> usize
     from + run_len(&text[from..], is_blank)
 }
 
-// The symbol at the front.
+// The symbol at the front. (Told by its first byte and whether `=` follows: by patterns of two bytes the compiler makes two
+// tables of jumps, and a token takes longer.)
 #[tactic(auto, unfolding(crate::specs::Text::symbol_of, crate::specs::Text::same))]
 fn symbol_at(rest: &[u8]) -> Option<Symbol>
     ensures { SymbolAt (slice_index rest.now 0) (next_is 61 (drop 1 rest.now)) result }
 {
-    match rest {
-        [b'<', b'=', ..] => Some(Symbol::AtMost),
-        [b'>', b'=', ..] => Some(Symbol::AtLeast),
-        [b'=', ..] => Some(Symbol::Equal),
-        [b'+', ..] => Some(Symbol::Plus),
-        [b'*', ..] => Some(Symbol::Times),
-        [b',', ..] => Some(Symbol::Comma),
-        [b';', ..] => Some(Symbol::Semicolon),
-        [b'(', ..] => Some(Symbol::Open),
-        [b')', ..] => Some(Symbol::Close),
-        [b'[', ..] => Some(Symbol::OpenSquare),
-        [b']', ..] => Some(Symbol::CloseSquare),
+    let (first, behind) = rest.split_first()?;
+    let equals = matches!(behind, [b'=', ..]);
+    match *first {
+        b'<' => if equals { Some(Symbol::AtMost) } else { None },
+        b'>' => if equals { Some(Symbol::AtLeast) } else { None },
+        b'=' => Some(Symbol::Equal),
+        b'+' => Some(Symbol::Plus),
+        b'*' => Some(Symbol::Times),
+        b',' => Some(Symbol::Comma),
+        b';' => Some(Symbol::Semicolon),
+        b'(' => Some(Symbol::Open),
+        b')' => Some(Symbol::Close),
+        b'[' => Some(Symbol::OpenSquare),
+        b']' => Some(Symbol::CloseSquare),
         _ => None,
     }
 }
@@ -84,10 +87,10 @@ fn token_at<'a>(text: &'a [u8], at: usize) -> Token<'a>
 {
     let rest = &text[at..];
     if is_letter(rest[0]) {
-        return Token::Word(&rest[..run_len(rest, is_letter)]);
+        return Token::Word(&rest[..1 + run_len(&rest[1..], is_letter)]);
     }
     if is_digit(rest[0]) {
-        return Token::Number(&rest[..run_len(rest, is_digit)]);
+        return Token::Number(&rest[..1 + run_len(&rest[1..], is_digit)]);
     }
     // (No `map_or`: the checker refuses a variant as a function where its enum may borrow the text.)
     match symbol_at(rest) {
@@ -113,7 +116,9 @@ pub fn at_end(cur: &mut Cursor<'_>) -> bool
     cur.pos >= text.len()
 }
 
-// The next token, which is then passed; the end of the text stays ahead.
+// The next token, which is then passed; the end of the text stays ahead. (Part of its caller when compiled: handed over
+// through memory, a token takes longer.)
+#[inline(always)]
 pub fn next<'a>(cur: &mut Cursor<'a>) -> Found<'a>
     ensures { Next (ahead cur.old) result (ahead cur.new) }
 {

@@ -1,4 +1,4 @@
-use Rattle.std.proofs.Common.{◌≡◌, false, ◌∷◌, Ok, sym, refl, ap, ◌∙◌, rules}
+use Rattle.std.proofs.Common.{◌≡◌, false, ◌∷◌, Ok, sym, refl, ap, ◌∙◌}
 use Rattle.tokens.specs.Text.{Stretch, word, number, symbol, stray, end}
 use Rattle.tokens.specs.Text as text
 use Rattle.tokens.specs.Tokens.{stretch_of}
@@ -15,13 +15,18 @@ goes (symbol s) t e f = refl
 goes stray t e f = refl
 goes end t e f = absurd (cc)
 
-pub returns : goal.returns
-returns c =
+pub returns-in-Ok : goal.returns-in-Ok
+returns-in-Ok c =
     let nx = c.next-found.ensures in
     let found = c.next-found.result in
-    let was : c.try_from.result ≡ Ok c.in_ok-terminal.terminal = search rules in
-    let e : Ok c.in_ok-terminal.terminal ≡ meaning (stretch_of found.token) = sym was ∙ c.try_from.ensures in (
+    let e : Ok c.in-Ok.terminal ≡ meaning (stretch_of found.token) = c.in-Ok.ensures in (
       meanings nx.rest,
       ap meanings nx.split ∙ ap (λ g. lexeme found.place g ∷ meanings nx.rest) (sym e),
-      λ f. ap meanings (nx.goes (goes (stretch_of found.token) c.in_ok-terminal.terminal e f)),
+      λ f. ap meanings (nx.goes (goes (stretch_of found.token) c.in-Ok.terminal e f)),
     )
+
+pub returns-in-Err : goal.returns-in-Err
+returns-in-Err c =
+    let nx = c.next-found.ensures in
+    let found = c.next-found.result in
+    (meanings nx.rest, ap meanings nx.split ∙ ap (λ g. lexeme found.place g ∷ meanings nx.rest) (sym c.in-Err.ensures))

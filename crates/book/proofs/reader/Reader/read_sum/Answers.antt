@@ -1,4 +1,4 @@
-use Rattle.std.proofs.Common.{◌≡◌, ◌≢◌, [], ◌∷◌, ◌++◌, sym, refl, ap, ◌∙◌, append_assoc, append-nil}
+use Rattle.std.proofs.Common.{[], ◌∷◌, ◌++◌, sym, refl, ap, ◌∙◌, append_assoc, append-nil}
 use Rattle.std.proofs.lemmas.Result.{err_from_is_err_and}
 use Rattle.book.specs.declared.terms.Part.{Part}
 use Rattle.book.specs.declared.terms.Sum.{Sum}
@@ -9,7 +9,6 @@ use Rattle.book.specs.Parts.{PartStops, SumStops}
 use Rattle.book.proofs.Compose.{start, read_on, alike, within}
 use Rattle.book.proofs.Sums.{inv_one, inv_two, inv_three}
 use Rattle.book.proofs.Compose.{passed_then, with-token, flat}
-use Rattle.book.proofs.Equal.{no_other, other}
 use Rattle.book.proofs.reader.Reader.read_sum.Goals as goal
 
 pub returns-in_err-first : goal.returns-in_err-first
@@ -21,7 +20,6 @@ returns-in_err-first c =
 
 pub returns-in_err-second : goal.returns-in_err-second
 returns-in_err-second c =
-    let one-plus : c.in_ok-first.plus.terminal ≡ Plus = no_other c.in_ok-first.plus.terminal Plus (sym c.if-ne.ensures) in
     let k = c.args.scope.number in
     let s = c.args.scope.bound in
     let a = c.in_ok-first.first in
@@ -30,26 +28,22 @@ returns-in_err-second c =
     rw (p.1, p.2) (within Part Sum (part_items k s) PartStops (sum_items k s) SumStops (A ++ (mark Plus ∷ [])) (λ x. Two a x) (λ _. [])
     (λ x. ap (λ l. A ++ (mark Plus ∷ l)) (sym (append-nil (part_items k s x))) ∙ sym (append_assoc A (mark Plus ∷ []) (part_items k s x ++ [])))
     (λ y u v f e. inv_two k s a y u v f (e ∙ flat A (mark Plus) [] v)) _ _ _ _
-    (with-token _ _ A c.in_ok-first.plus (mark Plus) c.in_ok-first.ensures.0 one-plus refl refl) c.in_err-second.ensures)
+    (with-token _ _ A c.in_ok-first.plus (mark Plus) c.in_ok-first.ensures.0 c.in-Plus.is refl refl) c.in_err-second.ensures)
 
-pub returns-then-ne-2 : goal.returns-then-ne-2
-returns-then-ne-2 c =
-    let one-plus : c.in_ok-first.plus.terminal ≡ Plus = no_other c.in_ok-first.plus.terminal Plus (sym c.if-ne.ensures) in
-    let not-plus : c.in_ok-second.more.terminal ≢ Plus = other c.in_ok-second.more.terminal Plus (sym c.if-ne-2.ensures) in
+pub returns-in_default-terminal : goal.returns-in_default-terminal
+returns-in_default-terminal c =
     let k = c.args.scope.number in
     let s = c.args.scope.bound in
     let A = part_items k s c.in_ok-first.first in
     let B = part_items k s c.in_ok-second.second in
     let two = c.in_ok-second.ensures in (
       passed_then _ _ _ (A ++ (mark Plus ∷ [])) B _ c.in_ok-second.more (append_assoc A (mark Plus ∷ []) B)
-          (with-token _ _ A c.in_ok-first.plus (mark Plus) c.in_ok-first.ensures.0 one-plus refl refl) two.0,
-      (not-plus, two.1),
+          (with-token _ _ A c.in_ok-first.plus (mark Plus) c.in_ok-first.ensures.0 c.in-Plus.is refl refl) two.0,
+      (c.in_default-terminal.not-Plus, two.1),
     )
 
 pub returns-in_err-third : goal.returns-in_err-third
 returns-in_err-third c =
-    let one-plus : c.in_ok-first.plus.terminal ≡ Plus = no_other c.in_ok-first.plus.terminal Plus (sym c.if-ne.ensures) in
-    let two-plus : c.in_ok-second.more.terminal ≡ Plus = no_other c.in_ok-second.more.terminal Plus (sym c.if-ne-2.ensures) in
     let k = c.args.scope.number in
     let s = c.args.scope.bound in
     let a = c.in_ok-first.first in
@@ -62,14 +56,12 @@ returns-in_err-third c =
     (λ y u v f e. inv_three k s a b y u v f (e ∙ flat A (mark Plus) (B ++ (mark Plus ∷ [])) v ∙ ap (λ l. tokens_of A ++ Plus ∷ l) (flat B (mark Plus) [] v))) _ _ _ _
     (alike _ _ _ _ (append_assoc A (mark Plus ∷ []) (B ++ (mark Plus ∷ [])))
     (read_on _ _ _ (A ++ (mark Plus ∷ [])) (B ++ (mark Plus ∷ []))
-    (with-token _ _ A c.in_ok-first.plus (mark Plus) c.in_ok-first.ensures.0 one-plus refl refl)
-    (with-token _ _ B c.in_ok-second.more (mark Plus) c.in_ok-second.ensures.0 two-plus refl refl)))
+    (with-token _ _ A c.in_ok-first.plus (mark Plus) c.in_ok-first.ensures.0 c.in-Plus.is refl refl)
+    (with-token _ _ B c.in_ok-second.more (mark Plus) c.in_ok-second.ensures.0 c.in-Plus-terminal.is refl refl)))
     c.in_err-third.ensures)
 
 pub returns : goal.returns
 returns c =
-    let one-plus : c.in_ok-first.plus.terminal ≡ Plus = no_other c.in_ok-first.plus.terminal Plus (sym c.if-ne.ensures) in
-    let two-plus : c.in_ok-second.more.terminal ≡ Plus = no_other c.in_ok-second.more.terminal Plus (sym c.if-ne-2.ensures) in
     let k = c.args.scope.number in
     let s = c.args.scope.bound in
     let A = part_items k s c.in_ok-first.first in
@@ -79,8 +71,8 @@ returns c =
       passed_then _ _ _ ((A ++ (mark Plus ∷ [])) ++ (B ++ (mark Plus ∷ []))) C _ c.in_ok-third.after
           (append_assoc (A ++ (mark Plus ∷ [])) (B ++ (mark Plus ∷ [])) C ∙ append_assoc A (mark Plus ∷ []) ((B ++ (mark Plus ∷ [])) ++ C) ∙ ap (λ l. A ++ (mark Plus ∷ l)) (append_assoc B (mark Plus ∷ []) C))
           (read_on _ _ _ (A ++ (mark Plus ∷ [])) (B ++ (mark Plus ∷ []))
-          (with-token _ _ A c.in_ok-first.plus (mark Plus) c.in_ok-first.ensures.0 one-plus refl refl)
-          (with-token _ _ B c.in_ok-second.more (mark Plus) c.in_ok-second.ensures.0 two-plus refl refl))
+          (with-token _ _ A c.in_ok-first.plus (mark Plus) c.in_ok-first.ensures.0 c.in-Plus.is refl refl)
+          (with-token _ _ B c.in_ok-second.more (mark Plus) c.in_ok-second.ensures.0 c.in-Plus-terminal.is refl refl))
           three.0,
       three.1,
     )
