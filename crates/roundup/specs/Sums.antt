@@ -1,4 +1,4 @@
--- Counts that have the same number are the same, and what follows for the sum of tallies. Assumes nothing.
+-- Counts that have the same number are the same, tallies that have the same counts are the same, and what follows for the sum of tallies. Assumes nothing.
 use Rattle.std.specs.Prelude.{◌≡◌, ◌≤◌}
 use mathlib.Core.HLevel.{is_prop→PathP}
 use Rattle.std.proofs.Math.Bridge.{le_prop}
@@ -10,6 +10,13 @@ use Rattle.roundup.specs.declared.tallies.Tally.{Tally}
 
 pub same_number : (c d : Count) → c.number ≡ d.number → c ≡ d
 same_number c d e = λ i. record { number = e i; within = is_prop→PathP (λ j. e j ≤ most) (λ j. le_prop) c.within d.within i }
+
+pub same_counts : (t u : Tally) → t.satisfied.number ≡ u.satisfied.number → t.breached.number ≡ u.breached.number → t.pending.number ≡ u.pending.number → t ≡ u
+same_counts t u s b p = λ i. record {
+  satisfied = same_number t.satisfied u.satisfied s i;
+  breached = same_number t.breached u.breached b i;
+  pending = same_number t.pending u.pending p i;
+}
 
 exchanged : (c d : Count) → count_sum c d ≡ count_sum d c
 unfolding count_of
